@@ -12,4 +12,5 @@ pub use fault::Refusal;
 pub use name::Name;
 pub use name::NameDisplay;
 pub use name::NamePartialEq;
+pub use name::is_word_byte;
 pub use order::Order;

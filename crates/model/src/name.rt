@@ -8,6 +8,7 @@ mod ops;
 
 pub use ops::NameDisplay;
 pub use ops::NamePartialEq;
+pub use ops::is_word_byte;
 
 /// A name as a sheet has it, or the empty name. The bytes past its length are 0.
 #[derive(Clone, Copy)]

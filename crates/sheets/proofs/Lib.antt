@@ -1,0 +1,5 @@
+pub mod Cursors
+pub mod Numerals
+pub mod Signs
+pub mod Spans
+pub mod Words

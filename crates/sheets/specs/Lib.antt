@@ -1,0 +1,5 @@
+pub mod Cursors
+pub mod Lines
+pub mod OrderSheets
+pub mod Sheets
+pub mod Tokens

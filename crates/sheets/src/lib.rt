@@ -1,0 +1,4 @@
+// Reads the sheets of the checker from lent text.
+mod cursor;
+mod number;
+mod token;
