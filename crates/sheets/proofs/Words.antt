@@ -9,6 +9,7 @@ use lib.Dec.{eqb}
 use lib.ListN.{length, getD}
 use Rattle.std.proofs.shelf.Tests.{and-parts, and-from, ne-eqb, cases-lt}
 use Rattle.std.proofs.shelf.Ways.{tells}
+use Rattle.model.proofs.Bytes.{every-append}
 use Rattle.model.specs.Names.{every, begins, is-word-byte}
 use Rattle.sheets.specs.Lines.{span}
 use Rattle.sheets.specs.Tokens.{tokens, joined-to}
@@ -24,10 +25,10 @@ tokens-space b bs e = rw e
 pub tokens-single : (b : ℕ) (bs : List ℕ) → (b ≡ 32 → ⊥) → is-word-byte b ≡ false → tokens (b ∷ bs) ≡ (b ∷ []) ∷ tokens bs
 tokens-single b bs no-space no-word = rw (ne-eqb b 32 no-space, no-word)
 
-tokens-joined : (b : ℕ) (bs : List ℕ) → is-word-byte b ≡ true → begins is-word-byte bs ≡ true → tokens (b ∷ bs) ≡ joined-to b (tokens bs)
+pub tokens-joined : (b : ℕ) (bs : List ℕ) → is-word-byte b ≡ true → begins is-word-byte bs ≡ true → tokens (b ∷ bs) ≡ joined-to b (tokens bs)
 tokens-joined b bs here next = rw (word-no-space b here, here, next)
 
-tokens-last : (b : ℕ) (bs : List ℕ) → is-word-byte b ≡ true → begins is-word-byte bs ≡ false → tokens (b ∷ bs) ≡ (b ∷ []) ∷ tokens bs
+pub tokens-last : (b : ℕ) (bs : List ℕ) → is-word-byte b ≡ true → begins is-word-byte bs ≡ false → tokens (b ∷ bs) ≡ (b ∷ []) ∷ tokens bs
 tokens-last b bs here next = rw (word-no-space b here, here, next)
 
 pub tokens-run : (word rest : List ℕ) → 0 < length word → every is-word-byte word ≡ true → begins is-word-byte rest ≡ false → tokens (word ++ rest) ≡ word ∷ tokens rest
@@ -54,14 +55,8 @@ ahead-run text a b e lt le inside all stop =
     let ends : begins is-word-byte (span text b e) ≡ false = ⊎-elim (λ more. ap (begins is-word-byte) (span-first text b e more inside) ∙ stop more) (λ none. ap (begins is-word-byte) (span-none text b e none)) (cases-lt b e) in
     ap tokens (span-join text a b e (omega arith) le) ∙ tokens-run (span text a b) (span text b e) some all ends
 
-every-append : (xs ys : List ℕ) → every is-word-byte xs ≡ true → every is-word-byte ys ≡ true → every is-word-byte (xs ++ ys) ≡ true
-every-append [] ys h k = k
-every-append (x ∷ xs) ys h k =
-    let both = and-parts (is-word-byte x) (every is-word-byte xs) h in
-    and-from (is-word-byte x) (every is-word-byte (xs ++ ys)) (both .0) (every-append xs ys (both .1) k)
-
 pub run-more : (text : List ℕ) (a b : ℕ) → a ≤ b → b + 1 ≤ length text → every is-word-byte (span text a b) ≡ true → is-word-byte (getD text b 0) ≡ true → every is-word-byte (span text a (b + 1)) ≡ true
 run-more text a b le inside all byte =
     let last : span text b (b + 1) ≡ getD text b 0 ∷ [] = span-first text b (b + 1) (omega arith) inside ∙ ap (λ xs. getD text b 0 ∷ xs) (span-none text (b + 1) (b + 1) (omega arith)) in
     let one : every is-word-byte (span text b (b + 1)) ≡ true = ap (every is-word-byte) last ∙ and-from (is-word-byte (getD text b 0)) true byte refl in
-    ap (every is-word-byte) (span-join text a b (b + 1) le (omega arith)) ∙ every-append (span text a b) (span text b (b + 1)) all one
+    ap (every is-word-byte) (span-join text a b (b + 1) le (omega arith)) ∙ every-append is-word-byte (span text a b) (span text b (b + 1)) all one

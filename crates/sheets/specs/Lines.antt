@@ -1,9 +1,10 @@
 -- The lines of a sheet.
+use mathlib.Core.Path.{_≡_}
 use mathlib.Core.List.{List, [], _∷_}
 use mathlib.Core.Bool.{Bool, true, cond}
-use Prim.Native.Nat.{ℕ, _+_, _-_}
+use Prim.Native.Nat.{ℕ, _+_, _-_, _<_, _≤_}
 use lib.Dec.{eqb}
-use lib.ListN.{take, drop}
+use lib.ListN.{length, getD, take, drop}
 
 pub record Line : Type 0 where
   pub first : ℕ
@@ -44,3 +45,10 @@ speaking (l ∷ ls) = cond (says-nothing (l .bytes)) (speaking ls) (l ∷ speaki
 -- the bytes from one place to another
 abbrev pub span : List ℕ → ℕ → ℕ → List ℕ
 span text from to = take (to - from) (drop from text)
+
+-- the line that begins at a place ends at another: at its newline, or with the text
+pub record EndsAt (text : List ℕ) (from to : ℕ) : Type 0 where
+  pub forward : from ≤ to
+  pub within : to ≤ length text
+  pub one-line : (k : ℕ) → from ≤ k → k < to → getD text k 0 ≡ 10 → ⊥
+  pub newline : to < length text → getD text to 0 ≡ 10

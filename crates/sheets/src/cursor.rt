@@ -2,7 +2,10 @@ ghost use denote.Ref.{now};
 ghost use Prim.Native.Nat.{_≤_};
 ghost use lib.ListN.{length};
 
-mod scan;
+mod lines;
+mod tokens;
+
+pub(crate) use lines::end_of_line;
 
 // Steps through a sheet line by line, and through a line token by token. Places are bytes of the text.
 #[derive(Drop)]

@@ -1,4 +1,5 @@
 // Reads the sheets of the checker from lent text.
 mod cursor;
+mod heading;
 mod number;
 mod token;
