@@ -6,11 +6,11 @@ use mathlib.Core.Bool.{true, false}
 use mathlib.Core.Logic.{⊎-elim}
 use Prim.Native.Nat.{ℕ, _+_, _-_, _<_, _≤_}
 use native.Mathlib.Omega.{arith}
-use lib.ListN.{length, getD}
+use lib.ListN.{length, getD, drop}
 use Rattle.std.proofs.shelf.Tests.{cases-lt, true≢false}
 use Rattle.model.specs.Names.{every, begins, is-word-byte}
-use Rattle.sheets.specs.Cursors.{ahead, SameLine}
-use Rattle.sheets.specs.Lines.{span}
+use Rattle.sheets.specs.Cursors.{ahead, following, SameLine}
+use Rattle.sheets.specs.Lines.{lines-from, span}
 use Rattle.sheets.specs.Tokens.{tokens}
 use Rattle.sheets.specs.declared.cursor.Cursor.{Cursor}
 use Rattle.sheets.proofs.Spans.{span-first, span-length}
@@ -45,3 +45,9 @@ passes c d same forward all stops more first =
       run = ap (begins is-word-byte) (span-first text (c .at) (d .at) moved (omega (arith, c .within))) ∙ first;
       next = ahead-run text (c .at) (d .at) (c .end) moved within (c .within) all halts ∙ ap (λ ts. span text (c .at) (d .at) ∷ ts) (sym there);
     })
+
+pub same-then : (c d e : Cursor) → SameLine c d → SameLine d e → SameLine c e
+same-then c d e p q = record { text = q .text ∙ p .text; line = q .line ∙ p .line; end = q .end ∙ p .end }
+
+pub same-following : (c d : Cursor) → SameLine c d → following d ≡ following c
+same-following c d same = λ i. lines-from (same .end i + 1) (drop (same .end i + 1) (same .text i))

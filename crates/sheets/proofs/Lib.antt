@@ -1,7 +1,9 @@
 pub mod Bracketing
 pub mod Cursors
+pub mod FactLines
 pub mod Headings
 pub mod LinesFrom
+pub mod NextToken
 pub mod Numerals
 pub mod Signs
 pub mod Spans

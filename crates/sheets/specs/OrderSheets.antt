@@ -6,6 +6,7 @@ use lib.Chars.{codes}
 use lib.ListN.{length}
 use Rattle.model.specs.Letters.{letter-of}
 use Rattle.model.specs.Orders.{Adds}
+use Rattle.model.specs.Refusals.{fault}
 use Rattle.model.specs.Spelling.{spelling}
 use Rattle.model.specs.declared.fact.Fact.{Fact}
 use Rattle.model.specs.declared.fault.Fault.{Fault}
@@ -13,8 +14,9 @@ use Rattle.model.specs.declared.fault.Refusal.{Refusal}
 use Rattle.model.specs.declared.fault.Refusal.the-variants.{TooManyBrackets, NoForm}
 use Rattle.std.specs.declared.result.Result.{Result}
 use Rattle.std.specs.declared.result.Result.the-variants.{Ok, Err}
+use Rattle.sheets.specs.Lines.{Line}
 use Rattle.sheets.specs.Sheets.{Sheet}
-use Rattle.sheets.specs.Tokens.{brackets}
+use Rattle.sheets.specs.Tokens.{brackets, tokens}
 
 -- a line of an order sheet: the letter of a type, and a name
 pub record FactLine (ts : List (List ℕ)) (f : Fact) : Type 0 where
@@ -31,3 +33,7 @@ pub data FactStep (fs : List Fact) (ts : List (List ℕ)) : Result (List Fact) R
 -- the verdict on the text of an order sheet
 abbrev pub OrderSheet : List ℕ → Result (List Fact) Fault → Type 0
 OrderSheet text r = Sheet FactStep (codes "ORD") [] text r
+
+-- the line is refused with this fault
+abbrev pub StepRefused : List Fact → Line → Fault → Type 0
+StepRefused fs l f = (refusal : Refusal) × (f ≡ fault refusal (l .first)) × FactStep fs (tokens (l .bytes)) (Err refusal)

@@ -47,3 +47,8 @@ module _ {S : Type 0} (Step : S → List (List ℕ) → Result S Refusal → Typ
   pub data Sheet (mark : List ℕ) (start : S) (text : List ℕ) : Result S Fault → Type 0 where
     unopened : (f : Fault) → Opens mark text (Err f) → Sheet mark start text (Err f)
     opened : {r : Result S Fault} → Opens mark text (Ok tt) → Reads start (speaking (later (lines-from 0 text))) r → Sheet mark start text r
+
+-- the verdict that an answer gives, with what it leaves
+abbrev pub verdict : {S : Type 0} → Result (Unit {0}) Fault → S → Result S Fault
+verdict (Ok x) s = Ok s
+verdict (Err f) s = Err f

@@ -2,6 +2,7 @@ ghost use denote.Ref.{now};
 ghost use Prim.Native.Nat.{_≤_};
 ghost use lib.ListN.{length};
 
+mod expect;
 mod lines;
 mod tokens;
 

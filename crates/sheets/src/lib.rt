@@ -2,4 +2,7 @@
 mod cursor;
 mod heading;
 mod number;
+mod order_sheet;
 mod token;
+
+pub use order_sheet::read_order;
