@@ -31,12 +31,12 @@ module _ (fs : List Fact) (f : Fact) where
   name-before : (i : ℕ) → i < length fs → getD (names (fs ++ (f ∷ []))) i [] ≡ getD (names fs) i []
   name-before i lt =
       ap (λ ns. getD ns i []) (map-push (λ g. spelling (g .name)) fs f)
-          ∙ getD-append-left (names fs) (spelling (f .name) ∷ []) [] i (omega (arith, length-map fs (λ g. spelling (g .name))))
+      ∙ getD-append-left (names fs) (spelling (f .name) ∷ []) [] i (omega (arith, length-map fs (λ g. spelling (g .name))))
 
   name-last : (i : ℕ) → i ≡ length fs → getD (names (fs ++ (f ∷ []))) i [] ≡ spelling (f .name)
   name-last i e =
       ap (λ ns. getD ns i []) (map-push (λ g. spelling (g .name)) fs f)
-          ∙ getD-push (names fs) (spelling (f .name)) [] i (length-map fs (λ g. spelling (g .name)) ∙ sym e)
+      ∙ getD-push (names fs) (spelling (f .name)) [] i (length-map fs (λ g. spelling (g .name)) ∙ sym e)
 
   pub all-named-more : AllNamed fs → 0 < length (spelling (f .name)) → AllNamed (fs ++ (f ∷ []))
   all-named-more all one i lt =
@@ -51,9 +51,9 @@ module _ (fs : List Fact) (f : Fact) where
       ⊎-elim
       (λ before. apart i j lt before (sym (name-before i (omega arith)) ∙ same ∙ name-before j before))
       (λ past.
-          let e : j ≡ length fs = omega arith in
-          let inside : i < length fs = omega arith in
-          new (i, inside, sym (name-before i inside) ∙ same ∙ name-last j e))
+      let e : j ≡ length fs = omega arith in
+      let inside : i < length fs = omega arith in
+      new (i, inside, sym (name-before i inside) ∙ same ∙ name-last j e))
       (cases-lt j (length fs))
 
 pub facts-more : (order : Order) (f : Fact) → order .len < 40 → take (order .len + 1) (set (order .facts) (order .len) f) ≡ facts-of order ++ (f ∷ [])

@@ -64,16 +64,16 @@ brackets-bytes (b ∷ bs) =
     ⊎-elim
     (λ space. ap brackets (tokens-space b bs (eqb-true b 32 space)) ∙ brackets-bytes bs ∙ sym (none (space-opens-none b space)))
     (λ other.
-        ⊎-elim
-        (λ word.
-            ⊎-elim
-            (λ more. ap brackets (tokens-joined b bs word more) ∙ joined-brackets b (tokens bs) word (run-first bs more) ∙ brackets-bytes bs ∙ sym (none (word-opens-none b word)))
-            (λ last. ap brackets (tokens-last b bs word last) ∙ brackets-none (b ∷ []) (tokens bs) (word-opens-none b word) ∙ brackets-bytes bs ∙ sym (none (word-opens-none b word)))
-            (cases-bool (begins is-word-byte bs)))
-        (λ single.
-            ap brackets (tokens-single b bs (eqb-false b 32 other) single)
-                ∙ ap (λ n. cond (opens-deeper b) (1 + n) n) (brackets-bytes bs))
-        (cases-bool (is-word-byte b)))
+    ⊎-elim
+    (λ word.
+    ⊎-elim
+    (λ more. ap brackets (tokens-joined b bs word more) ∙ joined-brackets b (tokens bs) word (run-first bs more) ∙ brackets-bytes bs ∙ sym (none (word-opens-none b word)))
+    (λ last. ap brackets (tokens-last b bs word last) ∙ brackets-none (b ∷ []) (tokens bs) (word-opens-none b word) ∙ brackets-bytes bs ∙ sym (none (word-opens-none b word)))
+    (cases-bool (begins is-word-byte bs)))
+    (λ single.
+    ap brackets (tokens-single b bs (eqb-false b 32 other) single)
+    ∙ ap (λ n. cond (opens-deeper b) (1 + n) n) (brackets-bytes bs))
+    (cases-bool (is-word-byte b)))
     (cases-bool (eqb b 32))
 
 -- one byte more is counted

@@ -27,8 +27,8 @@ module _ (text : List ℕ) (a b e : ℕ) (all : every is-word-byte (span text a 
   run-some forward =
       ⊎-elim (λ h. h)
       (λ none.
-          let same : b ≡ a = omega arith in
-          absurd (true≢false (sym first ∙ ap (λ n. is-word-byte (getD text n 0)) (sym same) ∙ stops (omega arith))))
+      let same : b ≡ a = omega arith in
+      absurd (true≢false (sym first ∙ ap (λ n. is-word-byte (getD text n 0)) (sym same) ∙ stops (omega arith))))
       (cases-lt a b)
 
 pub passes : (c d : Cursor) → SameLine c d → c .at ≤ d .at → every is-word-byte (span (now (c .text)) (c .at) (d .at)) ≡ true → (d .at < d .end → is-word-byte (getD (now (d .text)) (d .at) 0) ≡ false) → c .at < c .end → is-word-byte (getD (now (c .text)) (c .at) 0) ≡ true → Passed c d (span (now (d .text)) (c .at) (d .at))

@@ -5,6 +5,9 @@ pub mod Headings
 pub mod LinesFrom
 pub mod NextToken
 pub mod Numerals
+pub mod OrderVerdicts
 pub mod Signs
 pub mod Spans
+pub mod Verdicts
 pub mod Words
+pub mod WrittenBack

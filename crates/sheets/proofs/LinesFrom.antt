@@ -37,13 +37,13 @@ lines-by text (suc n) a e len ends lt =
     let first = span-first text a e more (ends .within) in
     ⊎-elim
     (λ next.
-        let tail : EndsAt text (a + 1) e = record { forward = omega arith; within = ends .within; one-line = λ k le. ends .one-line k (omega arith); newline = ends .newline } in
-        byte ∙ ap (in-front a (getD text a 0)) (lines-by text n (a + 1) e (omega arith) tail next) ∙ ap (λ xs. line-at a xs ∷ rest-from text (e + 1)) (sym first))
+    let tail : EndsAt text (a + 1) e = record { forward = omega arith; within = ends .within; one-line = λ k le. ends .one-line k (omega arith); newline = ends .newline } in
+    byte ∙ ap (in-front a (getD text a 0)) (lines-by text n (a + 1) e (omega arith) tail next) ∙ ap (λ xs. line-at a xs ∷ rest-from text (e + 1)) (sym first))
     (λ last.
-        let end : e ≡ a + 1 = omega (arith, ends .within) in
-        byte ∙ ap (in-front a (getD text a 0)) (rest-none text (a + 1) last)
-            ∙ ap (λ xs. line-at a xs ∷ []) (sym (first ∙ ap (λ xs. getD text a 0 ∷ xs) (span-none text (a + 1) e (omega arith))))
-            ∙ ap (λ ls. line-at a (span text a e) ∷ ls) (sym (rest-none text (e + 1) (omega arith))))
+    let end : e ≡ a + 1 = omega (arith, ends .within) in
+    byte ∙ ap (in-front a (getD text a 0)) (rest-none text (a + 1) last)
+    ∙ ap (λ xs. line-at a xs ∷ []) (sym (first ∙ ap (λ xs. getD text a 0 ∷ xs) (span-none text (a + 1) e (omega arith))))
+    ∙ ap (λ ls. line-at a (span text a e) ∷ ls) (sym (rest-none text (e + 1) (omega arith))))
     (cases-lt (a + 1) (length text))
 
 pub lines-at : (text : List ℕ) (a e : ℕ) → EndsAt text a e → a < length text → rest-from text a ≡ line-at a (span text a e) ∷ rest-from text (e + 1)
@@ -55,8 +55,8 @@ first-or-none text e ends =
     ⊎-elim
     (λ some. let ls = lines-at text 0 e ends some in (ap heading ls, ap later ls))
     (λ none.
-        let ls = rest-none text 0 none in
-        (ap heading ls ∙ sym (span-none text 0 e (omega (arith, ends .within))), ap later ls ∙ sym (rest-none text (e + 1) (omega arith))))
+    let ls = rest-none text 0 none in
+    (ap heading ls ∙ sym (span-none text 0 e (omega (arith, ends .within))), ap later ls ∙ sym (rest-none text (e + 1) (omega arith))))
     (cases-lt 0 (length text))
 
 pub heading-at : (text : List ℕ) (e : ℕ) → EndsAt text 0 e → heading (lines-from 0 text) ≡ span text 0 e

@@ -81,7 +81,7 @@ no-number-zero word zero long v small e =
     ⊎-elim
     (λ more. omega (arith, first-decimal v more (omega arith), ap (λ w. getD w 0 0) e))
     (λ none.
-        let z : v ≡ 0 = omega arith in
-        let digit : decimal v ≡ (48 + v) ∷ [] = decimal-digit v (omega arith) in
-        omega (arith, ap length (e ∙ digit)))
+    let z : v ≡ 0 = omega arith in
+    let digit : decimal v ≡ (48 + v) ∷ [] = decimal-digit v (omega arith) in
+    omega (arith, ap length (e ∙ digit)))
     (cases-lt 0 v)

@@ -1,12 +1,15 @@
+ghost use mathlib.Core.Bool.{true};
 ghost use mathlib.Core.List.{[]};
 ghost use mathlib.Core.Path.{_≡_};
 ghost use Rattle.model.specs.Orders.{facts-of};
 ghost use Rattle.model.specs.Refusals.{fault};
 ghost use Rattle.model.specs.declared.fact.Fact.{Fact as FactOf};
 ghost use Rattle.model.specs.declared.fault.Refusal.the-variants.{NoForm};
-ghost use Rattle.std.specs.Results.{Cases};
+ghost use Rattle.model.specs.declared.order.Order.{Order as OrderOf};
+ghost use Rattle.std.specs.Results.{Cases, isErr};
 ghost use Rattle.std.specs.declared.result.Result.the-variants.{Ok};
 ghost use Rattle.sheets.specs.Cursors.{ahead, current, SameLine};
+ghost use Rattle.sheets.specs.OrderLaws.{order-text, OrderLaws};
 ghost use Rattle.sheets.specs.OrderSheets.{FactLine, FactStep, OrderSheet, StepRefused};
 ghost use Rattle.sheets.specs.Sheets.{verdict};
 ghost use Rattle.sheets.specs.Tokens.{tokens};
@@ -20,7 +23,9 @@ use model::Refusal;
 /// Reads the text of an order sheet into an order, which is left empty on refusal.
 pub fn read_order(text: &[u8], order: &mut Order) -> Result<(), Fault>
     ensures verdict { λ r. ⌜ OrderSheet (now (text .entry)) (verdict r (facts-of (now (order .exit)))) ⌝ }
-    ensures refused { λ r. ⌜ Cases r (λ _. Unit {0}) (λ _. facts-of (now (order .exit)) ≡ []) ⌝ }
+    ensures refused { λ r. ⌜ (isErr r ≡ true → facts-of (now (order .exit)) ≡ []) ⌝ }
+    ensures written { λ r. ⌜ ((o : OrderOf) → now (text .entry) ≡ order-text (facts-of o) → (r ≡ Ok tt) × (facts-of (now (order .exit)) ≡ facts-of o)) ⌝ }
+    ensures laws { λ _. ⌜ OrderLaws ⌝ }
 {
     order.clear();
     let outcome = read_facts(text, order);

@@ -16,7 +16,10 @@ impl Name {
     pub fn empty() -> Name
         ensures { λ r. ⌜ spelling r ≡ [] ⌝ }
     {
-        Name { bytes: [0; 16], len: 0 }
+        Name {
+            bytes: [0; 16],
+            len: 0,
+        }
     }
 
     /// The name that is written as `word`, if that is a name.
@@ -30,7 +33,10 @@ impl Name {
         for (i, b) in word.iter().enumerate() {
             bytes[i] = *b;
         }
-        Some(Name { bytes, len: word.len() })
+        Some(Name {
+            bytes,
+            len: word.len(),
+        })
     }
 
     pub fn is_empty(&self) -> bool

@@ -20,7 +20,10 @@ impl Order {
             decomposition: Decomposition::Shannon,
             name: Name::empty(),
         };
-        Order { facts: [unused; 40], len: 0 }
+        Order {
+            facts: [unused; 40],
+            len: 0,
+        }
     }
 
     /// How many facts there are.

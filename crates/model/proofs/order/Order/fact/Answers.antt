@@ -20,4 +20,4 @@ returns c =
     let long = length-facts order in
     let inside : c .args .place < order .len = omega arith in
     ap Some (sym (getD-take (order .len) (order .facts) (c .args .place) (c .index-self-place .result) inside))
-        ∙ sym (nth-getD (facts-of order) (c .args .place) (c .index-self-place .result) (omega arith))
+    ∙ sym (nth-getD (facts-of order) (c .args .place) (c .index-self-place .result) (omega arith))

@@ -11,10 +11,10 @@ pub loop-b-again : need.loop-b-again
 loop-b-again c =
     let so = c .loop-b .inv in
     elim (c .if-is-bracket .came) [
-      then-is-bracket w ↦
-        let more = count-more _ _ _ (c .loop-b-test .taken) (sym (w .if-is-bracket .ensures tt)) (so .1) in (omega (arith, w .count-is), omega (arith, w .count-is))
-    | else-is-bracket w ↦
-        let same = count-same _ _ _ (c .loop-b-test .taken) (sym (w .if-is-bracket .ensures tt)) (so .1) in (omega (arith, w .count-is), omega (arith, w .count-is))
+      | then-is-bracket w ↦
+          let more = count-more _ _ _ (c .loop-b-test .taken) (sym (w .if-is-bracket .ensures tt)) (so .1) in (omega (arith, w .count-is), omega (arith, w .count-is))
+      | else-is-bracket w ↦
+          let same = count-same _ _ _ (c .loop-b-test .taken) (sym (w .if-is-bracket .ensures tt)) (so .1) in (omega (arith, w .count-is), omega (arith, w .count-is))
     ]
 
 pub returns : need.returns
