@@ -10,6 +10,7 @@ pub enum Decomposition {
 }
 
 impl Decomposition {
+    /// The letter that a sheet writes.
     pub fn letter(self) -> char
         ensures { λ r. ⌜ r ≡ letter-of self ⌝ }
     {

@@ -52,6 +52,7 @@ pub struct Fault {
 }
 
 impl Refusal {
+    /// The number by which the refusal is told.
     pub fn number(self) -> u8
         ensures { λ r. ⌜ r ≡ number-of self ⌝ }
     {
@@ -90,6 +91,7 @@ impl Refusal {
         }
     }
 
+    /// The fault of this refusal at a place.
     pub fn at(self, place: usize) -> Fault
         ensures { λ r. ⌜ r ≡ fault self place ⌝ }
     {

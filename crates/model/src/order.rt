@@ -4,12 +4,16 @@ ghost use lib.ListN.{length, take};
 ghost use Rattle.model.specs.Facts.{AllNamed, Different};
 use crate::fact::Fact;
 
-mod ops;
+mod edits;
+mod reads;
+
+/// The most facts that an order can have.
+pub const MAX_FACTS: usize = 40;
 
 /// The facts of a sheet, topmost first: at most 40, each with a name of its own.
 #[derive(Clone, Copy)]
 pub struct Order {
-    facts: [Fact; 40],
+    facts: [Fact; MAX_FACTS],
     len: usize,
     ghost whole: { length facts ≡ 40 },
     ghost short: { len ≤ 40 },

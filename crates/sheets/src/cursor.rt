@@ -8,6 +8,9 @@ mod tokens;
 
 pub(crate) use lines::end_of_line;
 
+// The most tokens `(` and `!` together that a line may have.
+pub(crate) const MAX_BRACKETS: usize = 32;
+
 // Steps through a sheet line by line, and through a line token by token. Places are bytes of the text.
 #[derive(Drop)]
 pub(crate) struct Cursor<'a> {

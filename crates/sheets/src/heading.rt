@@ -10,6 +10,12 @@ use crate::number::number;
 use model::Fault;
 use model::Refusal;
 
+// The most bytes that a sheet may have.
+const MAX_TEXT: usize = 65535;
+
+// Versions are 16-bit numbers.
+const MAX_VERSION: u32 = 65535;
+
 // The checks of a sheet up to its first line, which has this mark.
 pub(crate) fn check_heading(text: &[u8], mark: &[u8]) -> Result<(), Fault>
     ensures { λ r. ⌜ Opens (now (mark .entry)) (now (text .entry)) r ⌝ }
@@ -29,7 +35,7 @@ pub(crate) fn check_heading(text: &[u8], mark: &[u8]) -> Result<(), Fault>
 fn check_text(text: &[u8]) -> Result<(), Fault>
     ensures { λ r. ⌜ Cases r (λ _. Plain (now (text .entry))) (λ f. (mark : List ℕ) → Opens mark (now (text .entry)) (Err f)) ⌝ }
 {
-    if text.len() > 65535 {
+    if text.len() > MAX_TEXT {
         return Err(Refusal::TextTooLong.at(0));
     }
     for (i, b) in text.iter().enumerate() {
@@ -46,7 +52,7 @@ fn version(line: &[u8], mark: &[u8]) -> Option<u32>
 {
     let digits = line.strip_prefix(mark)?.strip_prefix(b" ")?;
     let version = number(digits)?;
-    if version > 65535 {
+    if version > MAX_VERSION {
         return None;
     }
     Some(version)

@@ -14,6 +14,7 @@ ghost use Rattle.sheets.specs.OrderSheets.{FactLine, FactStep, OrderSheet, Ste
 ghost use Rattle.sheets.specs.Sheets.{verdict};
 ghost use Rattle.sheets.specs.Tokens.{tokens};
 use crate::cursor::Cursor;
+use crate::cursor::MAX_BRACKETS;
 use crate::heading::check_heading;
 use model::Fact;
 use model::Fault;
@@ -53,7 +54,7 @@ fn read_fact(cursor: &mut Cursor, order: &mut Order) -> Result<(), Fault>
     ensures stays { λ _. ⌜ SameLine (now (cursor .entry)) (now (cursor .exit)) ⌝ }
     ensures step { λ r. ⌜ Cases r (λ _. FactStep (facts-of (now (order .entry))) (tokens (current (now (cursor .entry)) .bytes)) (Ok (facts-of (now (order .exit))))) (λ f. StepRefused (facts-of (now (order .entry))) (current (now (cursor .entry))) f) ⌝ }
 {
-    if cursor.count_brackets() > 32 {
+    if cursor.count_brackets() > MAX_BRACKETS {
         return Err(cursor.refuse(Refusal::TooManyBrackets));
     }
     let fact = fact_line(cursor)?;

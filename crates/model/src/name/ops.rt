@@ -8,6 +8,7 @@ ghost use Rattle.std.specs.Orderings.{Decides};
 ghost use Rattle.std.specs.declared.option.Option.the-variants.{Some};
 ghost use Rattle.model.specs.Names.{every, is-letter, is-name, is-word-byte};
 ghost use Rattle.model.specs.Spelling.{spelling};
+use super::MAX_LENGTH;
 use super::Name;
 use std::fmt;
 
@@ -17,7 +18,7 @@ impl Name {
         ensures { λ r. ⌜ spelling r ≡ [] ⌝ }
     {
         Name {
-            bytes: [0; 16],
+            bytes: [0; MAX_LENGTH],
             len: 0,
         }
     }
@@ -29,7 +30,7 @@ impl Name {
         if !is_name(word) {
             return None;
         }
-        let mut bytes = [0; 16];
+        let mut bytes = [0; MAX_LENGTH];
         for (i, b) in word.iter().enumerate() {
             bytes[i] = *b;
         }
@@ -39,6 +40,7 @@ impl Name {
         })
     }
 
+    /// Whether it is the empty name.
     pub fn is_empty(&self) -> bool
         ensures { λ r. ⌜ r ≡ eqb (length (spelling (now (self .entry)))) 0 ⌝ }
     {
@@ -101,7 +103,7 @@ fn all_word_bytes(word: &[u8]) -> bool
 fn is_name(word: &[u8]) -> bool
     ensures { λ r. ⌜ r ≡ is-name (now (word .entry)) ⌝ }
 {
-    if word.is_empty() || word.len() > 16 {
+    if word.is_empty() || word.len() > MAX_LENGTH {
         return false;
     }
     is_letter(word[0]) && all_word_bytes(word)

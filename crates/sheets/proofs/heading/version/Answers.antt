@@ -35,9 +35,9 @@ returns-in-Break-version c =
     rw (c .from-residual-in-Break-version .ensures)
     (λ v h. c .in-Break-version .ensures tt v (omega (arith, h .0)) (after-space _ _ (spaced (at .In-Continue-digits)) v (after-mark _ _ _ (marked (at .In-Continue-strip-prefix)) v h)))
 
-pub returns-then-version-gt65535 : need.returns-then-version-gt65535
-returns-then-version-gt65535 c v h =
-    let at = need.at·returns-then-version-gt65535 c in
+pub returns-then-version-gt-MAX-VERSION : need.returns-then-version-gt-MAX-VERSION
+returns-then-version-gt-MAX-VERSION c v h =
+    let at = need.at·returns-then-version-gt-MAX-VERSION c in
     let said = c .in-Continue-version .ensures tt in
     let read = after-space _ _ (spaced (at .In-Continue-digits)) v (after-mark _ _ _ (marked (at .In-Continue-strip-prefix)) v h) in
     let same = same-from-decimal (c .in-Continue-version .version) v (omega (arith, said .0)) (omega (arith, h .0)) (sym (said .1) ∙ read) in

@@ -13,9 +13,9 @@ use Rattle.sheets.specs.OrderSheets.{FactLine, FactStep, crowded, formless, tu
 use Rattle.sheets.specs.Tokens.{brackets, tokens}
 use Rattle.sheets.proofs.FactLines.{kept-if-refused}
 use Rattle.sheets.proofs.order_sheet.read_fact.Needs as need
-use Rattle.sheets.proofs.order_sheet.read_fact.Needs.{Else-count-brackets-gt32, In-Continue-fact}
+use Rattle.sheets.proofs.order_sheet.read_fact.Needs.{Else-count-brackets-gt-MAX-BRACKETS, In-Continue-fact}
 
-few : (c : Else-count-brackets-gt32) → brackets (tokens (current (c .args .cursor .now) .bytes)) ≤ 32
+few : (c : Else-count-brackets-gt-MAX-BRACKETS) → brackets (tokens (current (c .args .cursor .now) .bytes)) ≤ 32
 few c = omega (arith, c .count-brackets .ensures)
 
 -- the line has the form of the fact
@@ -24,15 +24,15 @@ has-form c =
     let F : List (List ℕ) → Type 0 = λ ts. FactLine ts (c .in-Continue-fact .fact) in
     subst F (c .pre) (c .in-Continue-fact .ensures tt .form)
 
-pub returns-then-count-brackets-gt32 : need.returns-then-count-brackets-gt32
-returns-then-count-brackets-gt32 c = record {
+pub returns-then-count-brackets-gt-MAX-BRACKETS : need.returns-then-count-brackets-gt-MAX-BRACKETS
+returns-then-count-brackets-gt-MAX-BRACKETS c = record {
   stays = record { text = refl; line = refl; end = refl };
   step = (TooManyBrackets, c .refuse .ensures, crowded (omega (arith, c .count-brackets .ensures)));
 }
 
 pub returns-in-Break-fact : need.returns-in-Break-fact
 returns-in-Break-fact c =
-    let way = need.at·returns-in-Break-fact c .Else-count-brackets-gt32 in
+    let way = need.at·returns-in-Break-fact c .Else-count-brackets-gt-MAX-BRACKETS in
     let said = c .in-Break-fact .ensures tt in
     let F : List (List ℕ) → Type 0 = λ ts. (f : Fact) → FactLine ts f → ⊥ in
     let p = err-from-errBy (c .from-residual .result) (c .from-residual .ensures .1) in
@@ -43,7 +43,7 @@ returns-in-Ok c =
     let at = need.at·returns-in-Ok c in
     record {
       stays = c .in-Continue-fact .ensures tt .stays;
-      step = taken (few (at .Else-count-brackets-gt32)) (c .in-Continue-fact .fact) _ (has-form (at .In-Continue-fact)) (c .in-Ok .ensures tt);
+      step = taken (few (at .Else-count-brackets-gt-MAX-BRACKETS)) (c .in-Continue-fact .fact) _ (has-form (at .In-Continue-fact)) (c .in-Ok .ensures tt);
     }
 
 pub returns-in-Err : need.returns-in-Err
@@ -55,6 +55,6 @@ returns-in-Err c =
       step = (
         c .in-Err .refusal,
         c .refuse-in-Err .ensures ∙ ap (fault (c .in-Err .refusal)) (said .stays .line),
-        turned-down (few (at .Else-count-brackets-gt32)) (c .in-Continue-fact .fact) (c .in-Err .refusal) (has-form (at .In-Continue-fact)) (kept-if-refused _ _ _ _ (c .in-Err .ensures tt)),
+        turned-down (few (at .Else-count-brackets-gt-MAX-BRACKETS)) (c .in-Continue-fact .fact) (c .in-Err .refusal) (has-form (at .In-Continue-fact)) (kept-if-refused _ _ _ _ (c .in-Err .ensures tt)),
       );
     }

@@ -1,8 +1,11 @@
-use borrow.Author.Needs.{needs}
-use mathlib.Core.Path.{_≡_}
+use mathlib.Core.Path.{_≡_, ap}
 use Prim.Native.Nat.{_-_}
 use native.Mathlib.Omega.{arith}
+use lib.ListN.{take}
 use Rattle.model.proofs.name.Name.as_bytes.Needs as need
 
 pub returns : need.returns
-returns c = let e : c .args .self .now .len - 0 ≡ c .args .self .now .len = omega arith in rw e
+returns c =
+    let name = c .args .self .now in
+    let e : name .len - 0 ≡ name .len = omega arith in
+    ap (λ n. take n (name .bytes)) e

@@ -33,10 +33,10 @@ returns-then-is-some c =
     known (some-name _ (eqb-false _ 0 (sym (c .if-is-empty .ensures tt))))
     (when-found _ _ (c .find .result) (c .find .ensures) (sym (c .if-is-some .ensures tt)))
 
-pub returns-then-self-eq40 : need.returns-then-self-eq40
-returns-then-self-eq40 c =
-    let way = need.at·returns-then-self-eq40 c .Else-is-some in
-    full (name-given way) (name-new way) (length-facts (c .args .self .now) ∙ c .if-self-eq40 .taken)
+pub returns-then-self-eq-MAX-FACTS : need.returns-then-self-eq-MAX-FACTS
+returns-then-self-eq-MAX-FACTS c =
+    let way = need.at·returns-then-self-eq-MAX-FACTS c .Else-is-some in
+    full (name-given way) (name-new way) (length-facts (c .args .self .now) ∙ c .if-self-eq-MAX-FACTS .taken)
 
 pub ghost-self : need.ghost-self
 ghost-self c =
