@@ -1,16 +1,15 @@
 -- How a word is copied into the 16 bytes of a name, and what a name's bytes are.
-use mathlib.Core.Path.{_≡_, refl, sym, ap, subst, _∙_}
+use mathlib.Core.Path.{_≡_, refl, sym, ap, _∙_}
 use mathlib.Core.List.{List, [], _∷_, _++_}
-use mathlib.Core.Bool.{Bool, true, false, _&&_, _||_}
-use mathlib.Core.Logic.{inl, inr, ⊎-elim}
+use mathlib.Core.Bool.{true}
 use Prim.Native.Nat.{ℕ, _+_, _-_, _<_, _≤_}
 use native.Mathlib.Omega.{arith}
-use lib.Dec.{eqb, leb}
+use lib.Dec.{eqb}
 use lib.ListN.{length, getD, set, take, drop, replicate}
-use Rattle.std.proofs.shelf.Lists.{length-set, take-more, take-more-set, take-all, drop-set-lt, drop-drop, drop-replicate, nil-from-length, length-take-le}
-use Rattle.std.proofs.shelf.Tests.{and-parts, or-cases, or-right, leb-true, eqb-true}
+use Rattle.std.proofs.shelf.Lists.{length-set, take-more, take-more-set, take-all, drop-set-lt, drop-drop, drop-replicate}
+use Rattle.std.proofs.shelf.Tests.{and-parts, or-right, leb-true}
 use Rattle.std.proofs.shelf.Ways.{tells}
-use Rattle.model.specs.Names.{every, begins, is-letter, is-word-byte, is-name, holds-name}
+use Rattle.model.specs.Names.{every, is-word-byte, is-name, holds-name}
 use Rattle.model.proofs.Bytes.{every-replicate}
 
 -- the first i bytes of the word are copied, and the others are 0

@@ -1,12 +1,12 @@
 -- What an order's fields say of its facts.
-use mathlib.Core.Path.{_≡_, refl, sym, ap, _∙_}
-use mathlib.Core.List.{List, [], _∷_, _++_, map}
+use mathlib.Core.Path.{_≡_, sym, ap, _∙_}
+use mathlib.Core.List.{List, [], _∷_, _++_}
 use mathlib.Core.Bool.{true, false}
 use mathlib.Core.Logic.{⊎-elim}
-use Prim.Native.Nat.{ℕ, _+_, _<_, _≤_}
+use Prim.Native.Nat.{ℕ, _+_, _<_}
 use native.Mathlib.Omega.{arith}
 use lib.ListN.{length, getD, set, take}
-use Rattle.std.proofs.shelf.Lists.{length-take-le, length-map, length-push, map-push, getD-append-left, getD-push, take-more-set, getD-map, getD-take}
+use Rattle.std.proofs.shelf.Lists.{length-take-le, length-map, length-push, map-append, getD-append-left, getD-at, take-more-set, getD-map, getD-take}
 use Rattle.std.proofs.shelf.Tests.{cases-lt, true≢false, false≢true}
 use Rattle.std.specs.Options.{isSome}
 use Rattle.std.specs.declared.option.Option.{Option}
@@ -26,34 +26,37 @@ name-at order i d lt =
     let long = length-facts order in
     getD-map (λ f. spelling (f .name)) (facts-of order) i d [] (omega arith) ∙ ap (λ f. spelling (f .name)) (getD-take (order .len) (order .facts) i d lt)
 
-module _ (fs : List Fact) (f : Fact) where
-  -- the name at a place of a list with one fact more
-  name-before : (i : ℕ) → i < length fs → getD (names (fs ++ (f ∷ []))) i [] ≡ getD (names fs) i []
+-- the name at a place of a list: at a fact, and before it
+module _ (fs : List Fact) (f : Fact) (gs : List Fact) where
+  names-split : names (fs ++ (f ∷ gs)) ≡ names fs ++ (spelling (f .name) ∷ names gs)
+  names-split = map-append (λ g. spelling (g .name)) fs (f ∷ gs)
+
+  pub name-before : (i : ℕ) → i < length fs → getD (names (fs ++ (f ∷ gs))) i [] ≡ getD (names fs) i []
   name-before i lt =
-      ap (λ ns. getD ns i []) (map-push (λ g. spelling (g .name)) fs f)
-      ∙ getD-append-left (names fs) (spelling (f .name) ∷ []) [] i (omega (arith, length-map fs (λ g. spelling (g .name))))
+      ap (λ ns. getD ns i []) names-split ∙ getD-append-left (names fs) (spelling (f .name) ∷ names gs) [] i (omega (arith, length-map fs (λ g. spelling (g .name))))
 
-  name-last : (i : ℕ) → i ≡ length fs → getD (names (fs ++ (f ∷ []))) i [] ≡ spelling (f .name)
-  name-last i e =
-      ap (λ ns. getD ns i []) (map-push (λ g. spelling (g .name)) fs f)
-      ∙ getD-push (names fs) (spelling (f .name)) [] i (length-map fs (λ g. spelling (g .name)) ∙ sym e)
+  pub name-here : (i : ℕ) → i ≡ length fs → getD (names (fs ++ (f ∷ gs))) i [] ≡ spelling (f .name)
+  name-here i e =
+      ap (λ ns. getD ns i []) names-split ∙ getD-at (names fs) (spelling (f .name)) (names gs) [] i (length-map fs (λ g. spelling (g .name)) ∙ sym e)
 
+-- one fact more
+module _ (fs : List Fact) (f : Fact) where
   pub all-named-more : AllNamed fs → 0 < length (spelling (f .name)) → AllNamed (fs ++ (f ∷ []))
   all-named-more all one i lt =
       ⊎-elim
-      (λ before. rw (name-before i before) (all i before))
-      (λ past. let e : i ≡ length fs = omega (arith, length-push fs f) in rw (name-last i e) one)
+      (λ before. rw (name-before fs f [] i before) (all i before))
+      (λ past. let e : i ≡ length fs = omega (arith, length-push fs f) in rw (name-here fs f [] i e) one)
       (cases-lt i (length fs))
 
   pub different-more : Different fs → (Named fs (spelling (f .name)) → ⊥) → Different (fs ++ (f ∷ []))
   different-more apart new i j lt within same =
       let long = length-push fs f in
       ⊎-elim
-      (λ before. apart i j lt before (sym (name-before i (omega arith)) ∙ same ∙ name-before j before))
+      (λ before. apart i j lt before (sym (name-before fs f [] i (omega arith)) ∙ same ∙ name-before fs f [] j before))
       (λ past.
       let e : j ≡ length fs = omega arith in
       let inside : i < length fs = omega arith in
-      new (i, inside, sym (name-before i inside) ∙ same ∙ name-last j e))
+      new (i, inside, sym (name-before fs f [] i inside) ∙ same ∙ name-here fs f [] j e))
       (cases-lt j (length fs))
 
 pub facts-more : (order : Order) (f : Fact) → order .len < 40 → take (order .len + 1) (set (order .facts) (order .len) f) ≡ facts-of order ++ (f ∷ [])

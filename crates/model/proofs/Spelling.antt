@@ -1,5 +1,5 @@
 -- What a name is written with, and that this says which name it is.
-use mathlib.Core.Path.{_≡_, refl, sym, ap, subst, _∙_}
+use mathlib.Core.Path.{_≡_, refl, sym, ap, _∙_}
 use mathlib.Core.List.{List, [], _∷_, _++_}
 use mathlib.Core.Bool.{Bool, true, Bool-set}
 use mathlib.Core.HLevel.{isProp→PathP}

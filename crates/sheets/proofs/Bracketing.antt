@@ -1,14 +1,14 @@
 -- Each `(` and `!` of a line is a token of its own.
 use mathlib.Core.Path.{_≡_, refl, sym, ap, subst, _∙_}
 use mathlib.Core.List.{List, [], _∷_}
-use mathlib.Core.Bool.{Bool, true, false, cond, _&&_, _||_}
+use mathlib.Core.Bool.{Bool, true, false, cond}
 use mathlib.Core.Logic.{⊎-elim}
-use Prim.Native.Nat.{ℕ, _+_, _<_, _≤_}
+use Prim.Native.Nat.{ℕ, _+_, _<_}
 use native.Mathlib.Omega.{arith}
 use lib.Dec.{eqb}
 use lib.ListN.{length, getD, drop}
 use Rattle.std.proofs.shelf.Lists.{at-drop-more}
-use Rattle.std.proofs.shelf.Tests.{cases-bool, and-parts, eqb-true, eqb-false, cond-true, cond-false}
+use Rattle.std.proofs.shelf.Tests.{cases-bool, eqb-true, eqb-false, cond-true, cond-false}
 use Rattle.std.proofs.shelf.Ways.{tells}
 use Rattle.model.specs.Names.{begins, is-word-byte}
 use Rattle.sheets.specs.Tokens.{tokens, joined-to, is-bracket, brackets}

@@ -1,8 +1,8 @@
 -- Which lines of an order sheet have a form.
-use mathlib.Core.Path.{_≡_, refl, sym, ap, subst, _∙_}
+use mathlib.Core.Path.{_≡_, refl, sym, ap, _∙_}
 use mathlib.Core.List.{List, [], _∷_}
-use Prim.Native.Nat.{ℕ, _<_}
-use lib.ListN.{length, drop}
+use Prim.Native.Nat.{ℕ}
+use lib.ListN.{drop}
 use Rattle.model.specs.Letters.{letter-of}
 use Rattle.model.specs.Orders.{Adds, nameless, known, full}
 use Rattle.model.specs.Spelling.{spelling}

@@ -1,8 +1,8 @@
 -- A line goes on with one token, or is stuck.
 use mathlib.Core.Path.{_≡_, refl, sym, ap, subst, _∙_}
 use mathlib.Core.List.{List, [], _∷_}
-use mathlib.Core.Bool.{Bool, true, false}
-use Prim.Native.Nat.{ℕ, _^_, _<_, _≤_}
+use mathlib.Core.Bool.{true, false}
+use Prim.Native.Nat.{ℕ, _^_, _<_}
 use native.Mathlib.Omega.{arith}
 use lib.ListN.{length, getD}
 use Rattle.std.proofs.shelf.Decimals.{same-from-decimal, decimal-some, decimal-reads}
@@ -12,13 +12,13 @@ use Rattle.std.proofs.shelf.Ways.{tells}
 use Rattle.std.specs.Text.{In}
 use Rattle.std.specs.Written.{decimal}
 use Rattle.model.specs.Letters.{letter-of}
-use Rattle.model.specs.Names.{begins, every, is-letter, is-name, is-word-byte}
+use Rattle.model.specs.Names.{begins, is-letter, is-name, is-word-byte}
 use Rattle.model.specs.Spelling.{spelling}
 use Rattle.model.specs.declared.decomposition.Decomposition.{Decomposition}
 use Rattle.model.specs.declared.decomposition.Decomposition.the-variants.{Shannon, PositiveDavio, NegativeDavio}
 use Rattle.model.specs.declared.name.Name.{Name}
 use Rattle.model.proofs.Spelling.{same-name, spelling-is-name}
-use Rattle.sheets.specs.Tokens.{sign, Next, Malformed, Stuck}
+use Rattle.sheets.specs.Tokens.{sign, Next, Stuck}
 use Rattle.sheets.specs.declared.token.Token.{Token}
 use Rattle.sheets.specs.declared.token.Token.the-variants.{LineEnd, Identifier, Number, TypeLetter, Equals, Or, Plus, Minus, Times, Not, Open, Close, Other}
 
@@ -34,7 +34,7 @@ letter-sign Shannon = refl
 letter-sign PositiveDavio = refl
 letter-sign NegativeDavio = refl
 
-letter-plain : (t : Decomposition) → is-word-byte (letter-of t) ≡ false
+pub letter-plain : (t : Decomposition) → is-word-byte (letter-of t) ≡ false
 letter-plain Shannon = refl
 letter-plain PositiveDavio = refl
 letter-plain NegativeDavio = refl

@@ -2,21 +2,16 @@
 use borrow.Author.Needs.{needs}
 use mathlib.Core.Path.{_≡_, refl, sym, ap, subst, _∙_}
 use mathlib.Core.List.{List, [], _∷_}
-use mathlib.Core.Bool.{Bool, true, false, _&&_}
+use mathlib.Core.Bool.{true, _&&_}
 use mathlib.Core.Logic.{⊎-elim}
 use Prim.Native.Nat.{ℕ, _+_, _-_, _*_, _^_, _<_, _≤_}
 use native.Mathlib.Omega.{arith}
-use lib.Pow.{pow-lt}
 use lib.ListN.{length, getD, drop}
 use Rattle.std.proofs.shelf.Decimals.{decimal-value, digits-decimal, value-decimal, decimal-some, first-decimal, decimal-digit}
 use Rattle.std.proofs.shelf.Lists.{at-drop-more, at-drop-all}
 use Rattle.std.proofs.shelf.Numerals.{Numerals, TellsDigits, Folds, numerals-by-fold}
-use Rattle.std.proofs.shelf.Tests.{and-parts, and-from, cases-lt, leb-true, le-leb}
-use Rattle.std.proofs.shelf.Ways.{tells}
-use Rattle.std.specs.Numbers.{Checked}
+use Rattle.std.proofs.shelf.Tests.{and-parts, cases-lt}
 use Rattle.std.specs.Written.{decimal}
-use Rattle.std.specs.declared.option.Option.{Option}
-use Rattle.std.specs.declared.option.Option.the-variants.{None, Some}
 use Rattle.model.specs.Names.{every, is-digit}
 
 -- the number that digits make after the number so far

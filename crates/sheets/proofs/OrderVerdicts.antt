@@ -1,7 +1,7 @@
 -- The laws of order sheets: one verdict, and by the tokens alone.
 use mathlib.Core.Path.{_≡_, refl, sym, ap, subst, _∙_}
 use mathlib.Core.List.{List, [], _∷_, _++_, map}
-use Prim.Native.Nat.{ℕ, _<_, _≤_}
+use Prim.Native.Nat.{ℕ}
 use native.Mathlib.Omega.{arith}
 use lib.Chars.{codes}
 use lib.ListN.{length, getD, drop}
@@ -11,19 +11,18 @@ use Rattle.model.proofs.Adding.{one-answer, added-last}
 use Rattle.model.proofs.Spelling.{same-name}
 use Rattle.model.specs.Letters.{letter-of}
 use Rattle.model.specs.Orders.{Adds}
-use Rattle.model.specs.Refusals.{fault, number-of}
-use Rattle.model.specs.Spelling.{spelling}
+use Rattle.model.specs.Refusals.{number-of}
 use Rattle.model.specs.declared.decomposition.Decomposition.{Decomposition}
 use Rattle.model.specs.declared.decomposition.Decomposition.the-variants.{Shannon, PositiveDavio, NegativeDavio}
 use Rattle.model.specs.declared.fact.Fact.{Fact}
 use Rattle.model.specs.declared.fault.Fault.{Fault}
 use Rattle.model.specs.declared.fault.Refusal.{Refusal}
-use Rattle.sheets.specs.Lines.{Line, heading, later, lines-from, speaking}
+use Rattle.sheets.specs.Lines.{Line, heading, lines-from}
 use Rattle.sheets.specs.OrderLaws.{Alike, token-lines, OrderLaws}
 use Rattle.sheets.specs.OrderSheets.{FactLine, FactStep, crowded, formless, turned-down, taken, OrderSheet}
-use Rattle.sheets.specs.Sheets.{Heading, Opens, too-long, bad-byte, bad-heading, wrong-version, opens, Plain, Reads, done, goes-on, stops, Sheet, unopened, opened}
-use Rattle.sheets.specs.Tokens.{brackets, tokens}
-use Rattle.sheets.proofs.Verdicts.{ok-or-err, same-ok, same-err, one-reading, one-verdict, one-refusal, plain-byte}
+use Rattle.sheets.specs.Sheets.{Heading, Opens, too-long, bad-byte, bad-heading, wrong-version, opens, Plain, Reads, done, goes-on, stops, unopened, opened}
+use Rattle.sheets.specs.Tokens.{tokens}
+use Rattle.sheets.proofs.Verdicts.{ok-or-err, same-ok, same-err, one-verdict, one-refusal, plain-byte}
 
 same-letter : (s t : Decomposition) → letter-of s ≡ letter-of t → s ≡ t
 same-letter Shannon Shannon e = refl

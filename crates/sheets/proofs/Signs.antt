@@ -1,16 +1,14 @@
 -- Characters that are tokens by themselves.
-use mathlib.Core.Path.{_≡_, refl, sym, ap, subst, _∙_}
+use mathlib.Core.Path.{_≡_, sym, ap, subst, _∙_}
 use mathlib.Core.List.{List, [], _∷_}
 use mathlib.Core.Bool.{Bool, true, false, cond}
 use mathlib.Core.Logic.{⊎-elim}
-use Prim.Native.Nat.{ℕ, _<_, _≤_}
-use native.Mathlib.Omega.{arith}
+use Prim.Native.Nat.{ℕ}
 use lib.Dec.{eqb}
-use Rattle.std.proofs.shelf.Tests.{eqb-true, eqb-false, cases-bool}
+use Rattle.std.proofs.shelf.Tests.{eqb-true, cases-bool}
 use Rattle.model.specs.Names.{is-word-byte}
 use Rattle.sheets.specs.Tokens.{sign, Next}
 use Rattle.sheets.specs.declared.token.Token.{Token}
-use Rattle.sheets.specs.declared.token.Token.the-variants.{Other}
 
 module _ (ts : List (List ℕ)) (c : ℕ) (rest : List (List ℕ)) (e : ts ≡ (c ∷ []) ∷ rest) where
   at-code : (k : ℕ) → eqb c k ≡ true → ts ≡ (k ∷ []) ∷ rest

@@ -1,11 +1,11 @@
 -- The bytes from one place to another.
-use mathlib.Core.Path.{_≡_, refl, sym, ap, _∙_}
+use mathlib.Core.Path.{_≡_, ap, _∙_}
 use mathlib.Core.List.{List, [], _∷_, _++_}
-use Prim.Native.Nat.{ℕ, zero, suc, _+_, _-_, _≤_, _<_}
+use Prim.Native.Nat.{ℕ, suc, _+_, _-_, _≤_, _<_}
 use native.Mathlib.Omega.{arith}
 use lib.ListN.{length, getD, take, drop}
 use lib.Seq.{drop-drop, take-add}
-use Rattle.std.proofs.shelf.Lists.{drop-more, take-all, length-take-le, length-drop, getD-take, getD-drop, drop-all}
+use Rattle.std.proofs.shelf.Lists.{drop-more, length-take-le, length-drop, getD-take, getD-drop}
 use Rattle.sheets.specs.Lines.{span}
 
 pub span-join : (xs : List ℕ) (a b c : ℕ) → a ≤ b → b ≤ c → span xs a c ≡ span xs a b ++ span xs b c

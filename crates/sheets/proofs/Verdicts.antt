@@ -1,9 +1,9 @@
 -- A text has one verdict.
 use mathlib.Core.Path.{_≡_, refl, sym, ap, subst, _∙_}
-use mathlib.Core.List.{List, [], _∷_, _++_}
-use mathlib.Core.Bool.{Bool, true, false}
+use mathlib.Core.List.{List}
+use mathlib.Core.Bool.{true, false}
 use mathlib.Core.Logic.{⊎-elim}
-use Prim.Native.Nat.{ℕ, _+_, _<_, _≤_}
+use Prim.Native.Nat.{ℕ, _<_}
 use native.Mathlib.Omega.{arith}
 use lib.ListN.{length, getD, take}
 use Rattle.std.proofs.shelf.Lists.{getD-take, length-take-le}
@@ -17,7 +17,7 @@ use Rattle.model.specs.declared.fault.Fault.{Fault}
 use Rattle.model.specs.declared.fault.Refusal.{Refusal}
 use Rattle.model.specs.declared.fault.Refusal.the-variants.{BadByte}
 use Rattle.sheets.specs.Lines.{Line, heading, later, lines-from, speaking}
-use Rattle.sheets.specs.Sheets.{allowed, Heading, Opens, too-long, bad-byte, bad-heading, wrong-version, opens, Plain, Reads, done, goes-on, stops, Sheet, unopened, opened}
+use Rattle.sheets.specs.Sheets.{allowed, Opens, too-long, bad-byte, bad-heading, wrong-version, opens, Plain, Reads, done, goes-on, stops, Sheet, unopened, opened}
 use Rattle.sheets.specs.Tokens.{tokens}
 use Rattle.sheets.proofs.Headings.{one-version}
 

@@ -1,16 +1,15 @@
 -- An order that is written out is read back.
 use mathlib.Core.Path.{_≡_, refl, sym, ap, subst, _∙_}
-use mathlib.Core.List.{List, [], _∷_, _++_, map}
-use mathlib.Core.Bool.{Bool, true, false, not, _&&_}
+use mathlib.Core.List.{List, [], _∷_, _++_}
+use mathlib.Core.Bool.{Bool, true, false, not}
 use mathlib.Core.Logic.{⊎-elim}
-use Prim.Native.Nat.{ℕ, suc, _+_, _*_, _^_, _<_, _≤_}
+use Prim.Native.Nat.{ℕ, suc, _+_, _*_, _<_, _≤_}
 use native.Mathlib.Omega.{arith}
-use native.Mathlib.Nat.{mul-add}
 use lib.Chars.{codes}
 use lib.Dec.{eqb}
-use lib.ListN.{length, getD}
+use lib.ListN.{length}
 use Rattle.std.proofs.shelf.Decimals.{decimal-digit}
-use Rattle.std.proofs.shelf.Lists.{append-nil, append-assoc, length-append, length-push, length-map, map-append, getD-at, getD-append-left}
+use Rattle.std.proofs.shelf.Lists.{append-nil, append-assoc, length-append, length-push}
 use Rattle.std.proofs.shelf.Tests.{and-parts, and-from, cond-true, cond-false, not-true, cases-bool, false≢true}
 use Rattle.std.proofs.shelf.Ways.{tells}
 use Rattle.std.specs.Joined.{joined}
@@ -20,11 +19,11 @@ use Rattle.std.specs.Results.{isErr}
 use Rattle.std.specs.declared.result.Result.the-variants.{Ok, Err}
 use Rattle.model.proofs.Bytes.{every-append}
 use Rattle.model.proofs.Names.{name-bytes, name-short}
-use Rattle.model.proofs.Orders.{length-facts}
+use Rattle.model.proofs.Orders.{length-facts, name-before, name-here}
 use Rattle.model.proofs.Spelling.{spelling-is-name}
-use Rattle.model.specs.Facts.{names, AllNamed, Different, Named}
+use Rattle.model.specs.Facts.{AllNamed, Different, Named}
 use Rattle.model.specs.Letters.{letter-of}
-use Rattle.model.specs.Names.{every, begins, is-word-byte}
+use Rattle.model.specs.Names.{every, is-word-byte}
 use Rattle.model.specs.Orders.{facts-of, added}
 use Rattle.model.specs.Spelling.{spelling}
 use Rattle.model.specs.declared.decomposition.Decomposition.{Decomposition}
@@ -34,9 +33,10 @@ use Rattle.model.specs.declared.fault.Fault.{Fault}
 use Rattle.model.specs.declared.order.Order.{Order}
 use Rattle.sheets.specs.Lines.{Line, line-at, in-front, lines-from, heading, later, says-nothing, speaking}
 use Rattle.sheets.specs.OrderLaws.{fact-text, order-text}
-use Rattle.sheets.specs.OrderSheets.{FactLine, FactStep, taken, OrderSheet}
-use Rattle.sheets.specs.Sheets.{allowed, Heading, opens, Plain, Reads, done, goes-on, opened, verdict}
+use Rattle.sheets.specs.OrderSheets.{FactStep, taken, OrderSheet}
+use Rattle.sheets.specs.Sheets.{allowed, opens, Plain, Reads, done, goes-on, opened, verdict}
 use Rattle.sheets.specs.Tokens.{brackets, is-bracket, tokens}
+use Rattle.sheets.proofs.NextToken.{letter-plain}
 use Rattle.sheets.proofs.OrderVerdicts.{order-laws}
 use Rattle.sheets.proofs.Verdicts.{ok-or-err, same-ok}
 use Rattle.sheets.proofs.Words.{tokens-single, tokens-run}
@@ -73,11 +73,6 @@ letter-allowed : (t : Decomposition) → allowed (letter-of t) ≡ true
 letter-allowed Shannon = refl
 letter-allowed PositiveDavio = refl
 letter-allowed NegativeDavio = refl
-
-letter-plain : (t : Decomposition) → is-word-byte (letter-of t) ≡ false
-letter-plain Shannon = refl
-letter-plain PositiveDavio = refl
-letter-plain NegativeDavio = refl
 
 letter-no-space : (t : Decomposition) → letter-of t ≡ 32 → ⊥
 letter-no-space Shannon e = omega arith
@@ -132,24 +127,14 @@ brackets-few (w ∷ ws) =
 
 -- the name after the facts fs
 module _ (fs : List Fact) (g : Fact) (gs : List Fact) where
-  names-split : names (fs ++ (g ∷ gs)) ≡ names fs ++ (spelling (g .name) ∷ names gs)
-  names-split = map-append (λ f. spelling (f .name)) fs (g ∷ gs)
-
-  name-here : getD (names (fs ++ (g ∷ gs))) (length fs) [] ≡ spelling (g .name)
-  name-here = ap (λ ns. getD ns (length fs) []) names-split ∙ getD-at (names fs) (spelling (g .name)) (names gs) [] (length fs) (length-map fs (λ f. spelling (f .name)))
-
-  name-before : (i : ℕ) → i < length fs → getD (names (fs ++ (g ∷ gs))) i [] ≡ getD (names fs) i []
-  name-before i lt =
-      ap (λ ns. getD ns i []) names-split ∙ getD-append-left (names fs) (spelling (g .name) ∷ names gs) [] i (omega (arith, length-map fs (λ f. spelling (f .name))))
-
   inside : length fs < length (fs ++ (g ∷ gs))
   inside = omega (arith, length-append fs (g ∷ gs))
 
   named-here : AllNamed (fs ++ (g ∷ gs)) → 0 < length (spelling (g .name))
-  named-here all = subst (λ n. 0 < length n) name-here (all (length fs) inside)
+  named-here all = subst (λ n. 0 < length n) (name-here fs g gs (length fs) refl) (all (length fs) inside)
 
   new-here : Different (fs ++ (g ∷ gs)) → Named fs (spelling (g .name)) → ⊥
-  new-here apart (i, lt, same) = apart i (length fs) lt inside (name-before i lt ∙ same ∙ sym name-here)
+  new-here apart (i, lt, same) = apart i (length fs) lt inside (name-before fs g gs i lt ∙ same ∙ sym (name-here fs g gs (length fs) refl))
 
   taken-here : AllNamed (fs ++ (g ∷ gs)) → Different (fs ++ (g ∷ gs)) → length (fs ++ (g ∷ gs)) ≤ 40 → FactStep fs (tokens (fact-bytes g)) (Ok (fs ++ (g ∷ [])))
   taken-here all apart room =

@@ -1,6 +1,6 @@
 -- The notation of order sheets.
 use mathlib.Core.Path.{_≡_}
-use mathlib.Core.List.{List, [], _∷_, _++_}
+use mathlib.Core.List.{List, [], _∷_}
 use Prim.Native.Nat.{ℕ, _<_, _≤_}
 use lib.Chars.{codes}
 use lib.ListN.{length}

@@ -1,6 +1,6 @@
 ghost use mathlib.Core.Bool.{true};
 ghost use mathlib.Core.Path.{_≡_};
-ghost use Prim.Native.Nat.{ℕ, _+_, _-_, _*_, _^_, _<_};
+ghost use Prim.Native.Nat.{_+_, _-_, _*_, _^_, _<_};
 ghost use Rattle.model.specs.Names.{is-digit};
 ghost use Rattle.std.specs.Numbers.{Checked};
 ghost use Rattle.sheets.specs.Tokens.{Numbered};

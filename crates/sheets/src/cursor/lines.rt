@@ -1,7 +1,7 @@
 ghost use mathlib.Core.List.{[], _∷_};
 ghost use mathlib.Core.Path.{_≡_};
-ghost use Prim.Native.Nat.{ℕ, _+_, _<_, _≤_};
-ghost use lib.ListN.{length, getD};
+ghost use Prim.Native.Nat.{_+_, _<_, _≤_};
+ghost use lib.ListN.{length};
 ghost use Rattle.std.specs.Orderings.{When};
 ghost use Rattle.sheets.specs.Cursors.{ahead, current, following};
 ghost use Rattle.sheets.specs.Lines.{EndsAt, later, lines-from, says-nothing, speaking};

@@ -1,9 +1,4 @@
-use mathlib.Core.Path.{_≡_, refl, sym, ap, subst, _∙_}
-use mathlib.Core.Bool.{true}
-use mathlib.Core.List.{List}
-use Prim.Native.Nat.{ℕ, _≤_}
-use native.Mathlib.Omega.{arith}
-use lib.ListN.{length}
+use mathlib.Core.Path.{sym, ap, subst, _∙_}
 use Rattle.model.specs.Names.{every}
 use Rattle.model.specs.declared.fault.Fault.{Fault}
 use Rattle.model.proofs.Bytes.{every-push}

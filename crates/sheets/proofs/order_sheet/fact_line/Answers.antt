@@ -1,8 +1,7 @@
-use mathlib.Core.Path.{_≡_, refl, sym, ap, _∙_}
+use mathlib.Core.Path.{ap, _∙_}
 use Rattle.std.proofs.shelf.Results.{err-from-errBy}
 use Rattle.model.specs.Refusals.{fault}
 use Rattle.model.specs.declared.fault.Refusal.the-variants.{NoForm}
-use Rattle.sheets.specs.Cursors.{SameLine}
 use Rattle.sheets.proofs.Cursors.{same-then}
 use Rattle.sheets.proofs.FactLines.{no-letter, no-name, no-end, fact-line}
 use Rattle.sheets.proofs.order_sheet.fact_line.Needs as need

@@ -1,15 +1,13 @@
-use mathlib.Core.Path.{_≡_, refl, sym, ap, subst, _∙_}
+use mathlib.Core.Path.{refl, ap, subst, _∙_}
 use mathlib.Core.List.{List}
 use Prim.Native.Nat.{ℕ, _≤_}
 use native.Mathlib.Omega.{arith}
 use Rattle.std.proofs.shelf.Results.{err-from-errBy}
-use Rattle.model.specs.Orders.{facts-of, Adds}
 use Rattle.model.specs.Refusals.{fault}
 use Rattle.model.specs.declared.fact.Fact.{Fact}
 use Rattle.model.specs.declared.fault.Refusal.the-variants.{TooManyBrackets, NoForm}
-use Rattle.sheets.specs.Cursors.{ahead, current}
-use Rattle.sheets.specs.Lines.{Line}
-use Rattle.sheets.specs.OrderSheets.{FactLine, FactStep, crowded, formless, turned-down, taken}
+use Rattle.sheets.specs.Cursors.{current}
+use Rattle.sheets.specs.OrderSheets.{FactLine, crowded, formless, turned-down, taken}
 use Rattle.sheets.specs.Tokens.{brackets, tokens}
 use Rattle.sheets.proofs.FactLines.{kept-if-refused}
 use Rattle.sheets.proofs.order_sheet.read_fact.Needs as need

@@ -1,6 +1,5 @@
-use mathlib.Core.Path.{_≡_, refl, sym, ap, subst, _∙_}
-use mathlib.Core.List.{List, [], _∷_}
-use lib.Chars.{codes}
+use mathlib.Core.Path.{sym, subst}
+use mathlib.Core.List.{List, []}
 use Rattle.std.proofs.shelf.Results.{err-from-errBy}
 use Rattle.std.specs.declared.result.Result.{Result}
 use Rattle.std.specs.declared.result.Result.the-variants.{Ok, Err}
@@ -8,10 +7,10 @@ use Rattle.model.specs.Orders.{facts-of}
 use Rattle.model.specs.Refusals.{fault}
 use Rattle.model.specs.declared.fact.Fact.{Fact}
 use Rattle.model.specs.declared.fault.Fault.{Fault}
-use Rattle.sheets.specs.Cursors.{current, following}
-use Rattle.sheets.specs.Lines.{Line, later, lines-from, speaking}
+use Rattle.sheets.specs.Cursors.{following}
+use Rattle.sheets.specs.Lines.{Line, speaking}
 use Rattle.sheets.specs.OrderSheets.{FactStep, OrderSheet}
-use Rattle.sheets.specs.Sheets.{Reads, done, goes-on, stops, Sheet, unopened, opened}
+use Rattle.sheets.specs.Sheets.{Reads, done, goes-on, stops, unopened, opened}
 use Rattle.sheets.proofs.Cursors.{same-following}
 use Rattle.sheets.proofs.order_sheet.read_facts.Needs as need
 use Rattle.sheets.proofs.order_sheet.read_facts.Needs.{After-new-cursor}

@@ -1,6 +1,5 @@
-use denote.Ref.{now}
 use mathlib.Core.List.{List}
-use Prim.Native.Nat.{ℕ, _-_}
+use Prim.Native.Nat.{_-_}
 use lib.ListN.{length}
 use Rattle.model.specs.Orders.{facts-of}
 use Rattle.model.specs.declared.fact.Fact.{Fact}

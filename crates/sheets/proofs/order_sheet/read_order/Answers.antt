@@ -1,4 +1,4 @@
-use mathlib.Core.Path.{_≡_, sym, subst, _∙_}
+use mathlib.Core.Path.{sym, subst, _∙_}
 use Rattle.std.proofs.shelf.Tests.{true≢false}
 use Rattle.std.specs.declared.result.Result.{Result}
 use mathlib.Core.List.{List}

@@ -1,8 +1,8 @@
 use mathlib.Core.Path.{_≡_, refl, sym, subst, _∙_}
-use mathlib.Core.List.{List, [], _∷_, _++_}
+use mathlib.Core.List.{List, [], _∷_}
 use Prim.Native.Nat.{ℕ, _<_}
 use native.Mathlib.Omega.{arith}
-use lib.ListN.{length, set}
+use lib.ListN.{length}
 use Rattle.std.proofs.shelf.Lists.{length-set, nil-from-length}
 use Rattle.std.proofs.shelf.Tests.{eqb-true, eqb-false}
 use Rattle.std.specs.declared.result.Result.the-variants.{Ok}

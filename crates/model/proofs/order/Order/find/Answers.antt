@@ -1,11 +1,8 @@
-use mathlib.Core.Path.{_≡_, sym, _∙_}
-use mathlib.Core.Bool.{true}
-use Prim.Native.Nat.{_<_}
+use mathlib.Core.Path.{sym, _∙_}
 use native.Mathlib.Omega.{arith}
 use lib.ListN.{getD}
 use borrow.Author.Count.{below-more}
 use Rattle.std.proofs.shelf.Ways.{not-from-decides}
-use Rattle.model.specs.Spelling.{spelling}
 use Rattle.model.proofs.Orders.{length-facts, name-at}
 use Rattle.model.proofs.Spelling.{decides-spelling}
 use Rattle.model.proofs.order.Order.find.Needs as need

@@ -1,4 +1,4 @@
-use mathlib.Core.Path.{_≡_, ap, _∙_}
+use mathlib.Core.Path.{ap, _∙_}
 use Rattle.model.specs.Refusals.{fault}
 use Rattle.model.specs.declared.fault.Refusal.the-variants.{NoForm}
 use Rattle.sheets.specs.declared.token.Token.the-variants.{Identifier}

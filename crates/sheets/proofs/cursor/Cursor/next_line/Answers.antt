@@ -1,7 +1,6 @@
 use denote.Ref.{now}
-use mathlib.Core.Path.{_≡_, refl, sym, ap, _∙_}
+use mathlib.Core.Path.{sym, ap, _∙_}
 use Rattle.std.proofs.shelf.Tests.{cond-true, cond-false}
-use Rattle.sheets.specs.Cursors.{current, following}
 use Rattle.sheets.specs.Lines.{speaking, span}
 use Rattle.sheets.specs.Tokens.{tokens}
 use Rattle.sheets.proofs.LinesFrom.{rest-none}

@@ -2,9 +2,8 @@ use denote.Ref.{now}
 use mathlib.Core.Path.{_≡_}
 use Prim.Native.Nat.{_-_}
 use lib.ListN.{length}
-use Rattle.sheets.specs.Cursors.{ahead, current, following}
+use Rattle.sheets.specs.Cursors.{following}
 use Rattle.sheets.specs.Lines.{speaking}
-use Rattle.sheets.specs.Tokens.{tokens}
 use Rattle.sheets.proofs.cursor.Cursor.next_line.Given as given
 
 abbrev pub Inv-loop-self : given.InvT-loop-self

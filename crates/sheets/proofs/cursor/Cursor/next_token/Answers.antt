@@ -1,7 +1,6 @@
 use denote.Ref.{now}
-use mathlib.Core.Path.{_≡_, sym, subst, _∙_}
-use mathlib.Core.List.{List}
-use Prim.Native.Nat.{ℕ, _+_, _<_}
+use mathlib.Core.Path.{sym, subst, _∙_}
+use Prim.Native.Nat.{_+_, _<_}
 use native.Mathlib.Omega.{arith}
 use Rattle.sheets.specs.Cursors.{ahead}
 use Rattle.sheets.specs.Tokens.{Next, tokens}

@@ -1,12 +1,10 @@
 use denote.Ref.{now}
 use mathlib.Core.Bool.{true}
-use mathlib.Core.List.{List}
-use mathlib.Core.Path.{_≡_, sym, ap, subst, _∙_}
-use Prim.Native.Nat.{ℕ, _+_, _≤_}
+use mathlib.Core.Path.{_≡_, sym, ap, _∙_}
+use Prim.Native.Nat.{_+_, _≤_}
 use native.Mathlib.Omega.{arith}
 use lib.ListN.{length, getD}
-use Rattle.model.specs.Names.{every, is-word-byte}
-use Rattle.sheets.specs.Lines.{span}
+use Rattle.model.specs.Names.{is-word-byte}
 use Rattle.sheets.proofs.Words.{run-more}
 use Rattle.sheets.proofs.cursor.Cursor.skip_run.Needs as need
 
