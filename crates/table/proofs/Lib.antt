@@ -1,0 +1,5 @@
+pub mod Chains
+pub mod Growing
+pub mod Numbered
+pub mod Searching
+pub mod Soundness
