@@ -1,13 +1,13 @@
 -- What adding a key and taking the last one away write into the cells.
-use mathlib.Core.Path.{_≡_, refl, sym, ap, subst, _∙_}
+use mathlib.Core.Path.{_≡_, refl, sym, ap, _∙_}
 use mathlib.Core.List.{List, [], _∷_, _++_}
-use mathlib.Core.Bool.{Bool, true, false, cond}
-use mathlib.Core.Logic.{⊎-elim, _≢_}
-use Prim.Native.Nat.{ℕ, _<_, _≤_}
+use mathlib.Core.Bool.{cond}
+use mathlib.Core.Logic.{⊎-elim}
+use Prim.Native.Nat.{ℕ, _<_}
 use native.Mathlib.Omega.{arith}
 use lib.Dec.{eqb}
 use lib.ListN.{length, getD, set}
-use Rattle.std.proofs.shelf.Lists.{length-set, getD-set-same, getD-set-other, getD-default, same-lists}
+use Rattle.std.proofs.shelf.Lists.{length-set, getD-set-same, getD-set-other, same-lists}
 use Rattle.std.proofs.shelf.Tests.{cases-eq, cond-true, cond-false, eq-eqb, ne-eqb}
 use Rattle.std.specs.shelf.Maps.{nth}
 use Rattle.std.specs.declared.option.Option.{Option}
@@ -28,15 +28,15 @@ by-places : {X : Type 0} (xs ys : List X) (a b : ℕ) (u v : X) → a < length x
 by-places xs ys a b u v ina inb long at-b at-a other =
     let size : length (set (set xs a u) b v) ≡ length xs = length-set (set xs a u) b v ∙ length-set xs a u in
     same-lists (set (set xs a u) b v) ys (size ∙ sym long) (λ i d lt.
-        ⊎-elim
-        (λ e. ap (λ j. getD (set (set xs a u) b v) j d) e ∙ getD-set-same (set xs a u) b v d (omega (arith, length-set xs a u)) ∙ sym (at-b d) ∙ ap (λ j. getD ys j d) (sym e))
-        (λ ne.
-            getD-set-other (set xs a u) b i v d ne
-                ∙ ⊎-elim
-                (λ e. ap (λ j. getD (set xs a u) j d) e ∙ getD-set-same xs a u d ina ∙ sym (at-a d (λ ab. ne (e ∙ ab))) ∙ ap (λ j. getD ys j d) (sym e))
-                (λ na. getD-set-other xs a i u d na ∙ sym (other i d (omega (arith, size)) na ne))
-                (cases-eq i a))
-        (cases-eq i b))
+    ⊎-elim
+    (λ e. ap (λ j. getD (set (set xs a u) b v) j d) e ∙ getD-set-same (set xs a u) b v d (omega (arith, length-set xs a u)) ∙ sym (at-b d) ∙ ap (λ j. getD ys j d) (sym e))
+    (λ ne.
+    getD-set-other (set xs a u) b i v d ne
+    ∙ ⊎-elim
+    (λ e. ap (λ j. getD (set xs a u) j d) e ∙ getD-set-same xs a u d ina ∙ sym (at-a d (λ ab. ne (e ∙ ab))) ∙ ap (λ j. getD ys j d) (sym e))
+    (λ na. getD-set-other xs a i u d na ∙ sym (other i d (omega (arith, size)) na ne))
+    (cases-eq i a))
+    (cases-eq i b))
 
 module _ {K : Type 0} (code : K → ℕ) (cap : ℕ) (keys : List K) (k : K) (room : length keys < cap) (inside : home code cap k < cap) where
   module _ (i : ℕ) where
@@ -56,14 +56,14 @@ module _ {K : Type 0} (code : K → ℕ) (cap : ℕ) (keys : List K) (k : K) (ro
       → getD (filled code cap (keys ++ (k ∷ []))) (home code cap k) d ≡ cell (head .key) (Some (length keys)) (head .next)
   at-home d head is =
       filled-at code cap (keys ++ (k ∷ [])) (home code cap k) d inside
-          ∙ ⊎-elim
-          (λ e.
-              let own : head ≡ cell (Some k) _ _ = is ∙ ap (λ j. getD (set (filled code cap keys) (length keys) (cell (Some k) (latest code cap keys (length keys) (length keys)) (latest code cap keys (home code cap k) (length keys)))) j head) e ∙ getD-set-same (filled code cap keys) (length keys) _ head (omega (arith, length-filled code cap keys)) in
-              ap (cell-of code cap (keys ++ (k ∷ []))) e ∙ cell-new code cap keys k ∙ ap (λ f. cell (Some k) f (latest code cap keys (home code cap k) (length keys))) (begun (length keys) (sym e)) ∙ ap (λ c. cell (c .key) (Some (length keys)) (c .next)) (sym own))
-          (λ ne.
-              let old : head ≡ cell-of code cap keys (home code cap k) = is ∙ getD-set-other (filled code cap keys) (length keys) (home code cap k) _ head ne ∙ filled-at code cap keys (home code cap k) head inside in
-              cell-other code cap keys k (home code cap k) ne ∙ ap (λ f. cell (nth keys (home code cap k)) f (before code cap keys (home code cap k) (nth keys (home code cap k)))) (begun (home code cap k) refl) ∙ ap (λ c. cell (c .key) (Some (length keys)) (c .next)) (sym old))
-          (cases-eq (home code cap k) (length keys))
+      ∙ ⊎-elim
+      (λ e.
+      let own : head ≡ cell (Some k) _ _ = is ∙ ap (λ j. getD (set (filled code cap keys) (length keys) (cell (Some k) (latest code cap keys (length keys) (length keys)) (latest code cap keys (home code cap k) (length keys)))) j head) e ∙ getD-set-same (filled code cap keys) (length keys) _ head (omega (arith, length-filled code cap keys)) in
+      ap (cell-of code cap (keys ++ (k ∷ []))) e ∙ cell-new code cap keys k ∙ ap (λ f. cell (Some k) f (latest code cap keys (home code cap k) (length keys))) (begun (length keys) (sym e)) ∙ ap (λ c. cell (c .key) (Some (length keys)) (c .next)) (sym own))
+      (λ ne.
+      let old : head ≡ cell-of code cap keys (home code cap k) = is ∙ getD-set-other (filled code cap keys) (length keys) (home code cap k) _ head ne ∙ filled-at code cap keys (home code cap k) head inside in
+      cell-other code cap keys k (home code cap k) ne ∙ ap (λ f. cell (nth keys (home code cap k)) f (before code cap keys (home code cap k) (nth keys (home code cap k)))) (begun (home code cap k) refl) ∙ ap (λ c. cell (c .key) (Some (length keys)) (c .next)) (sym old))
+      (cases-eq (home code cap k) (length keys))
 
   -- the key's own cell, where its hash falls on another
   at-own : (d : Cell K) → (length keys ≡ home code cap k → ⊥) → getD (filled code cap (keys ++ (k ∷ []))) (length keys) d ≡ cell (Some k) (latest code cap keys (length keys) (length keys)) (latest code cap keys (home code cap k) (length keys))
@@ -92,11 +92,11 @@ module _ {K : Type 0} (code : K → ℕ) (cap : ℕ) (keys : List K) (k : K) (ro
       let long = length-filled code cap (keys ++ (k ∷ [])) in
       ⊎-elim
       (λ e.
-          let here : own ≡ mended = is ∙ ap (λ j. getD (set (filled code cap (keys ++ (k ∷ []))) (home code cap k) mended) j own) e ∙ getD-set-same (filled code cap (keys ++ (k ∷ []))) (home code cap k) mended own (omega arith) in
-          ap (λ c. c .first) here ∙ ap (λ b. latest code cap keys b (length keys)) (sym e))
+      let here : own ≡ mended = is ∙ ap (λ j. getD (set (filled code cap (keys ++ (k ∷ []))) (home code cap k) mended) j own) e ∙ getD-set-same (filled code cap (keys ++ (k ∷ []))) (home code cap k) mended own (omega arith) in
+      ap (λ c. c .first) here ∙ ap (λ b. latest code cap keys b (length keys)) (sym e))
       (λ ne.
-          let here = is ∙ getD-set-other (filled code cap (keys ++ (k ∷ []))) (home code cap k) (length keys) mended own ne ∙ at-own own ne in
-          ap (λ c. c .first) here)
+      let here = is ∙ getD-set-other (filled code cap (keys ++ (k ∷ []))) (home code cap k) (length keys) mended own ne ∙ at-own own ne in
+      ap (λ c. c .first) here)
       (cases-eq (length keys) (home code cap k))
 
   pub shrunk : (head own : Cell K) → head ≡ getD (filled code cap (keys ++ (k ∷ []))) (home code cap k) head

@@ -1,11 +1,10 @@
 -- The search along a chain.
-use mathlib.Core.Path.{_≡_, refl, sym, ap, subst, _∙_}
+use mathlib.Core.Path.{_≡_, refl, sym, ap, _∙_}
 use mathlib.Core.List.{List}
 use mathlib.Core.Bool.{Bool, true, false}
 use mathlib.Core.Logic.{⊎-elim}
-use Prim.Native.Nat.{ℕ, suc, _+_, _%_, _<_, _≤_}
+use Prim.Native.Nat.{ℕ, suc, _%_, _<_, _≤_}
 use native.Mathlib.Omega.{arith}
-use lib.Dec.{eqb}
 use lib.ListN.{length}
 use Rattle.std.proofs.shelf.Tests.{cases-bool, cases-lt, eqb-true, eq-eqb, true≢false}
 use Rattle.std.specs.shelf.Maps.{nth}
@@ -62,10 +61,10 @@ module _ {K : Type 0} (same : K → K → Bool) (code : K → ℕ) (laws : KeyLa
       passed = λ j x le is.
           ⊎-elim
           (λ early.
-              ⊎-elim
-              (λ later. other-chain j x is (here .none-between j later early))
-              (λ last. let same-place : j ≡ n = omega arith in sym (ap (has-same same key) (ap (nth keys) (sym same-place) ∙ is)) ∙ h)
-              (cases-lt n j))
+          ⊎-elim
+          (λ later. other-chain j x is (here .none-between j later early))
+          (λ last. let same-place : j ≡ n = omega arith in sym (ap (has-same same key) (ap (nth keys) (sym same-place) ∙ is)) ∙ h)
+          (cases-lt n j))
           (λ late. so .passed j x late is)
           (cases-lt j m);
     }

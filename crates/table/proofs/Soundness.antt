@@ -1,23 +1,22 @@
 -- What a table's cells say of its keys, and what they are after a key has come or gone.
-use mathlib.Core.Path.{_≡_, refl, sym, ap, subst, _∙_}
+use mathlib.Core.Path.{_≡_, sym, ap, _∙_}
 use mathlib.Core.List.{List, [], _∷_, _++_}
-use mathlib.Core.Bool.{Bool, true, false}
+use mathlib.Core.Bool.{Bool}
 use mathlib.Core.Logic.{⊎-elim}
 use Prim.Native.Nat.{ℕ, _+_, _<_, _≤_}
 use native.Mathlib.Omega.{arith}
-use lib.ListN.{length, getD, set, take}
-use Rattle.std.proofs.shelf.Lists.{length-set, length-push, getD-default, take-at}
+use lib.ListN.{length, getD, set}
+use Rattle.std.proofs.shelf.Lists.{length-set, length-push, getD-default}
 use Rattle.std.proofs.shelf.Tests.{cases-lt}
 use Rattle.std.specs.shelf.Maps.{nth}
-use Rattle.std.specs.declared.option.Option.{Option}
 use Rattle.std.specs.declared.option.Option.the-variants.{None, Some}
 use Rattle.table.specs.Cells.{keys-in}
-use Rattle.table.specs.Filled.{home, latest, before, cell-of, filled, Filled}
+use Rattle.table.specs.Filled.{home, latest, cell-of, filled, Filled}
 use Rattle.table.specs.Keys.{Absent, Apart}
 use Rattle.table.specs.declared.cell.Cell.{Cell}
 use Rattle.table.proofs.Chains.{length-filled, filled-at, keys-filled, cell-new}
 use Rattle.table.proofs.Growing.{cell, grown, shrunk}
-use Rattle.table.proofs.Numbered.{none-some, same-some, nth-some, nth-inside, nth-before, nth-here}
+use Rattle.table.proofs.Numbered.{same-some, nth-inside, nth-before, nth-here}
 
 module _ {K : Type 0} (code : K → ℕ) where
   pub filled-cell : (cells : List (Cell K)) → Filled code cells → (i : ℕ) (d : Cell K) → i < length cells → getD cells i d ≡ cell-of code (length cells) (keys-in cells) i
@@ -53,8 +52,8 @@ module _ {K : Type 0} (code : K → ℕ) where
       let own = cell (Some k) (latest code cap keys (length keys) (length keys)) (latest code cap keys (home code cap k) (length keys)) in
       let long : length (set old (length keys) own) ≡ cap = length-set old (length keys) own ∙ length-filled code cap keys in
       (λ i. chained (is i) (at-n i) (at-h i) (cell (Some k) (getD (is i) (at-n i) c .first) (getD (is i) (at-h i) d .first)) e)
-          ∙ (λ i. chained old (length keys) (home code cap k) (cell (Some k) (filled-at code cap keys (length keys) c room i .first) (filled-at code cap keys (home code cap k) d inside i .first)) e)
-          ∙ grown code cap keys k room inside (getD (set old (length keys) own) (home code cap k) e) (getD-default (set old (length keys) own) (home code cap k) e _ (omega arith))
+      ∙ (λ i. chained old (length keys) (home code cap k) (cell (Some k) (filled-at code cap keys (length keys) c room i .first) (filled-at code cap keys (home code cap k) d inside i .first)) e)
+      ∙ grown code cap keys k room inside (getD (set old (length keys) own) (home code cap k) e) (getD-default (set old (length keys) own) (home code cap k) e _ (omega arith))
 
   -- ---- the last key goes
 
@@ -73,10 +72,10 @@ module _ {K : Type 0} (code : K → ℕ) where
       let mended = cell (head .key) (latest code cap keys (home code cap k) (length keys)) (head .next) in
       let next : getD old (length keys) c .next ≡ latest code cap keys (home code cap k) (length keys) = ap (λ x. x .next) (filled-at code cap (keys ++ (k ∷ [])) (length keys) c room ∙ cell-new code cap keys k) in
       (λ i. unchained (is i) (at-n i) (at-h i) (cell (getD (is i) (at-h i) d .key) (getD (is i) (at-n i) c .next) (getD (is i) (at-h i) d .next)) e)
-          ∙ ap (λ x. unchained old (length keys) (home code cap k) (cell (head .key) x (head .next)) e) next
-          ∙ shrunk code cap keys k room inside head (getD (set old (home code cap k) mended) (length keys) e)
-          (getD-default old (home code cap k) d head (omega arith))
-          (getD-default (set old (home code cap k) mended) (length keys) e _ (omega (arith, length-set old (home code cap k) mended)))
+      ∙ ap (λ x. unchained old (length keys) (home code cap k) (cell (head .key) x (head .next)) e) next
+      ∙ shrunk code cap keys k room inside head (getD (set old (home code cap k) mended) (length keys) e)
+      (getD-default old (home code cap k) d head (omega arith))
+      (getD-default (set old (home code cap k) mended) (length keys) e _ (omega (arith, length-set old (home code cap k) mended)))
 
 module _ {K : Type 0} (same : K → K → Bool) where
   pub apart-more : (keys : List K) (k : K) → Apart same keys → Absent same keys k → Apart same (keys ++ (k ∷ []))
@@ -87,8 +86,8 @@ module _ {K : Type 0} (same : K → K → Bool) where
       ⊎-elim
       (λ inside. apart i j x y lt old (sym (nth-before keys (k ∷ []) j inside) ∙ at-j))
       (λ end.
-          let here : k ≡ y = same-some k y (sym (nth-here keys k [] j (omega arith)) ∙ at-j) in
-          ap (same x) (sym here) ∙ none i x old)
+      let here : k ≡ y = same-some k y (sym (nth-here keys k [] j (omega arith)) ∙ at-j) in
+      ap (same x) (sym here) ∙ none i x old)
       (cases-lt j (length keys))
 
   pub apart-less : (keys : List K) (k : K) → Apart same (keys ++ (k ∷ [])) → Apart same keys

@@ -3,6 +3,7 @@ ghost use mathlib.Core.Path.{_≡_};
 ghost use Prim.Native.Nat.{_-_, _<_};
 ghost use lib.ListN.{length, take};
 ghost use Rattle.table.specs.Keys.{Absent};
+ghost use Rattle.table.specs.Runs.{TableLaws};
 ghost use Rattle.table.specs.Tables.{capacity-of, keys-of, FindsOrAdds, Sound};
 use super::Full;
 use super::Table;
@@ -15,6 +16,7 @@ impl<'a, K: Key> Table<'a, K> {
         ensures sound { λ r. ⌜ Sound (K·Key .same) (K·Key .code) r ⌝ }
         ensures keys { λ r. ⌜ keys-of r ≡ [] ⌝ }
         ensures capacity { λ r. ⌜ capacity-of r ≡ length (now (cells .entry)) ⌝ }
+        ensures laws { λ r. ⌜ TableLaws (K·Key .same) (K·Key .code) (capacity-of r) ⌝ }
     {
         let mut table = Table { cells, len: 0 };
         table.clear();
@@ -35,7 +37,7 @@ impl<'a, K: Key> Table<'a, K> {
 
     /// The number of the key that is equal to this one, which is added if there is none.
     pub fn find_or_add(&mut self, key: K) -> Result<usize, Full>
-        requires { ⌜ Sound (K·Key .same) (K·Key .code) (now self) ⌝ }
+        requires sound { ⌜ Sound (K·Key .same) (K·Key .code) (now self) ⌝ }
         ensures sound { λ _. ⌜ Sound (K·Key .same) (K·Key .code) (now (self .exit)) ⌝ }
         ensures keys { λ r. ⌜ FindsOrAdds (K·Key .same) (capacity-of (now (self .entry))) (keys-of (now (self .entry))) key r (keys-of (now (self .exit))) ⌝ }
         ensures capacity { λ _. ⌜ capacity-of (now (self .exit)) ≡ capacity-of (now (self .entry)) ⌝ }
@@ -53,7 +55,9 @@ impl<'a, K: Key> Table<'a, K> {
 
     // One key more, which no key that is held equals, at the front of its chain.
     fn append(&mut self, key: K)
-        requires { ⌜ Sound (K·Key .same) (K·Key .code) (now self) × Absent (K·Key .same) (keys-of (now self)) key × (now self .len < capacity-of (now self)) ⌝ }
+        requires sound { ⌜ Sound (K·Key .same) (K·Key .code) (now self) ⌝ }
+        requires absent { ⌜ Absent (K·Key .same) (keys-of (now self)) key ⌝ }
+        requires room { ⌜ now self .len < capacity-of (now self) ⌝ }
         ensures sound { λ _. ⌜ Sound (K·Key .same) (K·Key .code) (now (self .exit)) ⌝ }
         ensures keys { λ _. ⌜ keys-of (now (self .exit)) ≡ keys-of (now (self .entry)) ++ (key ∷ []) ⌝ }
         ensures capacity { λ _. ⌜ capacity-of (now (self .exit)) ≡ capacity-of (now (self .entry)) ⌝ }
@@ -78,7 +82,7 @@ impl<'a, K: Key> Table<'a, K> {
 
     /// Keeps the first `count` keys, or all if there are fewer.
     pub fn cut(&mut self, count: usize)
-        requires { ⌜ Sound (K·Key .same) (K·Key .code) (now self) ⌝ }
+        requires sound { ⌜ Sound (K·Key .same) (K·Key .code) (now self) ⌝ }
         ensures sound { λ _. ⌜ Sound (K·Key .same) (K·Key .code) (now (self .exit)) ⌝ }
         ensures keys { λ _. ⌜ keys-of (now (self .exit)) ≡ take count (keys-of (now (self .entry))) ⌝ }
         ensures capacity { λ _. ⌜ capacity-of (now (self .exit)) ≡ capacity-of (now (self .entry)) ⌝ }
@@ -90,7 +94,8 @@ impl<'a, K: Key> Table<'a, K> {
 
     // Takes the last key away, and makes its chain begin where it went on.
     fn drop_last(&mut self)
-        requires { ⌜ Sound (K·Key .same) (K·Key .code) (now self) × (0 < now self .len) ⌝ }
+        requires sound { ⌜ Sound (K·Key .same) (K·Key .code) (now self) ⌝ }
+        requires some { ⌜ 0 < now self .len ⌝ }
         ensures sound { λ _. ⌜ Sound (K·Key .same) (K·Key .code) (now (self .exit)) ⌝ }
         ensures len { λ _. ⌜ now (self .exit) .len ≡ now (self .entry) .len - 1 ⌝ }
         ensures keys { λ _. ⌜ keys-of (now (self .exit)) ≡ take (now (self .entry) .len - 1) (keys-of (now (self .entry))) ⌝ }

@@ -14,7 +14,7 @@ use crate::key::Key;
 impl<K: Key> Table<'_, K> {
     /// How many keys are held.
     pub fn len(&self) -> usize
-        requires { ⌜ Sound (K·Key .same) (K·Key .code) (now self) ⌝ }
+        requires sound { ⌜ Sound (K·Key .same) (K·Key .code) (now self) ⌝ }
         ensures { λ r. ⌜ r ≡ length (keys-of (now (self .entry))) ⌝ }
     {
         self.len
@@ -29,7 +29,7 @@ impl<K: Key> Table<'_, K> {
 
     /// The key with a number.
     pub fn key_at(&self, number: usize) -> Option<K>
-        requires { ⌜ Sound (K·Key .same) (K·Key .code) (now self) ⌝ }
+        requires sound { ⌜ Sound (K·Key .same) (K·Key .code) (now self) ⌝ }
         ensures { λ r. ⌜ r ≡ nth (keys-of (now (self .entry))) number ⌝ }
     {
         if number >= self.len {
@@ -40,7 +40,7 @@ impl<K: Key> Table<'_, K> {
 
     /// The number of the key that is equal to this one.
     pub fn find(&self, key: &K) -> Option<usize>
-        requires { ⌜ Sound (K·Key .same) (K·Key .code) (now self) ⌝ }
+        requires sound { ⌜ Sound (K·Key .same) (K·Key .code) (now self) ⌝ }
         ensures { λ r. ⌜ Finds (K·Key .same) (keys-of (now (self .entry))) (now (key .entry)) r ⌝ }
     {
         if self.cells.is_empty() {

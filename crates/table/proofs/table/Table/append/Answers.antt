@@ -1,5 +1,5 @@
-use mathlib.Core.Path.{_≡_, sym, ap, subst, _∙_}
-use mathlib.Core.List.{List, [], _∷_, _++_}
+use mathlib.Core.Path.{sym, ap, subst, _∙_}
+use mathlib.Core.List.{[], _∷_, _++_}
 use Prim.Native.Nat.{_+_, _≤_}
 use native.Mathlib.Omega.{arith}
 use lib.ListN.{length}
@@ -15,17 +15,17 @@ returns g c =
     let same = g .K·Key .same in
     let t = c .args .self .now in
     let cells = t .cells .now in
-    let so = c .pre .0 in
+    let so = c .pre .sound in
     let home = c .home-home .ensures in
     let keys = keys-in cells ++ (c .args .key ∷ []) in
-    let is = one-more code cells (length cells) (keys-in cells) (c .args .key) (t .len) (c .home-home .result) _ _ _ (so .cells .all) (sym (so .count)) (home .value) (c .pre .2) (home .within) in
-    let few : length keys ≤ length cells = omega (arith, length-push (keys-in cells) (c .args .key), so .count, c .pre .2) in
+    let is = one-more code cells (length cells) (keys-in cells) (c .args .key) (t .len) (c .home-home .result) _ _ _ (so .cells .all) (sym (so .count)) (home .value) (c .pre .room) (home .within) in
+    let few : length keys ≤ length cells = omega (arith, length-push (keys-in cells) (c .args .key), so .count, c .pre .room) in
     let held = cells-keys code _ (length cells) keys is few in
     record {
       sound = record {
         count = ap length held ∙ length-push (keys-in cells) (c .args .key) ∙ ap (λ n. n + 1) (so .count);
         cells = cells-filled code _ (length cells) keys is few;
-        apart = subst (Apart same) (sym held) (apart-more same (keys-in cells) (c .args .key) (so .apart) (c .pre .1));
+        apart = subst (Apart same) (sym held) (apart-more same (keys-in cells) (c .args .key) (so .apart) (c .pre .absent));
       };
       keys = held;
       capacity = cells-long code _ (length cells) keys is few;

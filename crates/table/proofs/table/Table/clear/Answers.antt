@@ -1,4 +1,4 @@
-use mathlib.Core.Path.{_≡_, refl, ap, _∙_}
+use mathlib.Core.Path.{refl, ap, _∙_}
 use mathlib.Core.List.{[]}
 use mathlib.Core.Logic.{_≢_}
 use Prim.Native.Nat.{_<_}
@@ -9,7 +9,7 @@ use Rattle.std.proofs.shelf.Counted.{fill-by-all}
 use Rattle.std.proofs.shelf.Lists.{getD-set-same, getD-set-other}
 use Rattle.table.specs.Cells.{empty-cell}
 use Rattle.table.specs.Filled.{cell-of}
-use Rattle.table.proofs.Soundness.{cells-long, cells-keys, cells-filled, none-apart}
+use Rattle.table.proofs.Soundness.{cells-keys, cells-filled, none-apart}
 use Rattle.table.proofs.table.Table.clear.Needs as need
 
 pub loop-cell-again : need.loop-cell-again

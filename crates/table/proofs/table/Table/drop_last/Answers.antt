@@ -1,6 +1,6 @@
 use mathlib.Core.Path.{_≡_, refl, sym, ap, subst, _∙_}
-use mathlib.Core.List.{List, [], _∷_, _++_}
-use Prim.Native.Nat.{ℕ, _+_, _-_, _<_, _≤_}
+use mathlib.Core.List.{[], _∷_, _++_}
+use Prim.Native.Nat.{_+_, _-_, _<_, _≤_}
 use native.Mathlib.Omega.{arith}
 use lib.ListN.{length, take}
 use Rattle.std.proofs.shelf.Lists.{length-take-le}
@@ -18,9 +18,9 @@ pub returns-in-rest : need.returns-in-rest
 returns-in-rest g c =
     let t = c .args .self .now in
     let cells = t .cells .now in
-    let so = c .pre .0 in
-    let last = filled-cell (g .K·Key .code) cells (so .cells) (t .len - 1) (c .index-self-number .result) (omega (arith, so .count, so .cells .few, c .pre .1)) in
-    let key = nth-some (keys-in cells) (t .len - 1) (omega (arith, so .count, c .pre .1)) in
+    let so = c .pre .sound in
+    let last = filled-cell (g .K·Key .code) cells (so .cells) (t .len - 1) (c .index-self-number .result) (omega (arith, so .count, so .cells .few, c .pre .some)) in
+    let key = nth-some (keys-in cells) (t .len - 1) (omega (arith, so .count, c .pre .some)) in
     absurd (none-some (key .0) (sym (c .in-rest .is) ∙ ap (λ x. x .key) last ∙ key .1))
 
 pub returns : need.returns
@@ -32,11 +32,11 @@ returns g c =
     let keys = keys-in cells in
     let n = t .len - 1 in
     let k = c .in-Some .key in
-    let so = c .pre .0 in
+    let so = c .pre .sound in
     let home = c .home-home .ensures in
-    let inside : n < length cells = omega (arith, so .count, so .cells .few, c .pre .1) in
+    let inside : n < length cells = omega (arith, so .count, so .cells .few, c .pre .some) in
     let last : nth keys n ≡ Some k = sym (ap (λ x. x .key) (filled-cell code cells (so .cells) n (c .index-self-number .result) inside)) ∙ c .in-Some .is in
-    let split : keys ≡ take n keys ++ (k ∷ []) = split-last keys n k (omega (arith, so .count, c .pre .1)) last in
+    let split : keys ≡ take n keys ++ (k ∷ []) = split-last keys n k (omega (arith, so .count, c .pre .some)) last in
     let long : length (take n keys) ≡ n = length-take-le n keys (omega (arith, so .count)) in
     let few : length (take n keys) ≤ length cells = omega arith in
     let is = one-less code cells (length cells) (take n keys) k n (c .home-home .result) _ _ _ (so .cells .all ∙ ap (filled code (length cells)) split) (sym long) (home .value) inside (home .within) in

@@ -1,4 +1,4 @@
-use mathlib.Core.Path.{_≡_, sym, ap, _∙_}
+use mathlib.Core.Path.{ap, _∙_}
 use lib.ListN.{length}
 use Rattle.table.specs.Cells.{empty-cell, keys-in}
 use Rattle.table.specs.Filled.{latest}
@@ -10,8 +10,8 @@ follow-requires g c κs =
     let cells = c .args .self .now .cells .now in
     let home = c .home-home .ensures in
     record {
-      filled = c .pre .cells;
+      filled = c .pre .sound .cells;
       chain =
-          ap (λ x. x .first) (c .cell-at-first .ensures ∙ filled-cell (g .K·Key .code) cells (c .pre .cells) (c .home-home .result) empty-cell (home .within))
-              ∙ ap (λ b. latest (g .K·Key .code) (length cells) (keys-in cells) b (length (keys-in cells))) (home .value);
+          ap (λ x. x .first) (c .cell-at-first .ensures ∙ filled-cell (g .K·Key .code) cells (c .pre .sound .cells) (c .home-home .result) empty-cell (home .within))
+          ∙ ap (λ b. latest (g .K·Key .code) (length cells) (keys-in cells) b (length (keys-in cells))) (home .value);
     }
