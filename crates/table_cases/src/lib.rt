@@ -1,0 +1,5 @@
+// The numbered table at several kinds of keys. The crate holds only tests.
+#[cfg(test)]
+mod keys;
+#[cfg(test)]
+mod tables;
