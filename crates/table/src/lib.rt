@@ -4,6 +4,7 @@ mod key;
 mod table;
 
 pub use cell::Cell;
+pub use cell::CellClone;
 pub use key::Key;
 pub use table::Full;
 pub use table::Table;

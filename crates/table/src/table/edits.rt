@@ -1,7 +1,8 @@
 ghost use mathlib.Core.List.{[], _∷_, _++_};
 ghost use mathlib.Core.Path.{_≡_};
 ghost use Prim.Native.Nat.{_-_, _<_};
-ghost use lib.ListN.{length, take};
+ghost use lib.ListN.{length, replicate, take};
+ghost use Rattle.table.specs.Cells.{empty-cell};
 ghost use Rattle.table.specs.Keys.{Absent};
 ghost use Rattle.table.specs.Runs.{TableLaws};
 ghost use Rattle.table.specs.Tables.{capacity-of, keys-of, FindsOrAdds, Sound};
@@ -15,6 +16,7 @@ impl<'a, K: Key> Table<'a, K> {
     pub fn open(cells: &'a mut [Cell<K>]) -> Table<'a, K>
         ensures sound { λ r. ⌜ Sound (K·Key .same) (K·Key .code) r ⌝ }
         ensures keys { λ r. ⌜ keys-of r ≡ [] ⌝ }
+        ensures cells { λ r. ⌜ now (r .cells) ≡ replicate (capacity-of r) empty-cell ⌝ }
         ensures capacity { λ r. ⌜ capacity-of r ≡ length (now (cells .entry)) ⌝ }
         ensures laws { λ r. ⌜ TableLaws (K·Key .same) (K·Key .code) (capacity-of r) ⌝ }
     {
@@ -27,6 +29,7 @@ impl<'a, K: Key> Table<'a, K> {
     pub fn clear(&mut self)
         ensures sound { λ _. ⌜ Sound (K·Key .same) (K·Key .code) (now (self .exit)) ⌝ }
         ensures keys { λ _. ⌜ keys-of (now (self .exit)) ≡ [] ⌝ }
+        ensures cells { λ _. ⌜ now (now (self .exit) .cells) ≡ replicate (capacity-of (now (self .exit))) empty-cell ⌝ }
         ensures capacity { λ _. ⌜ capacity-of (now (self .exit)) ≡ capacity-of (now (self .entry)) ⌝ }
     {
         for cell in self.cells.iter_mut() {

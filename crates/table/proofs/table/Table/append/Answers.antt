@@ -18,8 +18,8 @@ returns g c =
     let so = c .pre .sound in
     let home = c .home-home .ensures in
     let keys = keys-in cells ++ (c .args .key ∷ []) in
-    let is = one-more code cells (length cells) (keys-in cells) (c .args .key) (t .len) (c .home-home .result) _ _ _ (so .cells .all) (sym (so .count)) (home .value) (c .pre .room) (home .within) in
     let few : length keys ≤ length cells = omega (arith, length-push (keys-in cells) (c .args .key), so .count, c .pre .room) in
+    let is = one-more code cells (length cells) (keys-in cells) (c .args .key) (t .len) (c .home-home .result) _ _ _ (so .cells .all) (sym (so .count)) (home .value) (c .pre .room) (home .within) in
     let held = cells-keys code _ (length cells) keys is few in
     record {
       sound = record {

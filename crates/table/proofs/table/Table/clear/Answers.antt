@@ -1,12 +1,12 @@
-use mathlib.Core.Path.{refl, ap, _∙_}
+use mathlib.Core.Path.{refl, sym, ap, _∙_}
 use mathlib.Core.List.{[]}
 use mathlib.Core.Logic.{_≢_}
 use Prim.Native.Nat.{_<_}
 use native.Mathlib.Omega.{arith}
 use borrow.Author.Count.{below-more}
-use lib.ListN.{length}
+use lib.ListN.{length, replicate}
 use Rattle.std.proofs.shelf.Counted.{fill-by-all}
-use Rattle.std.proofs.shelf.Lists.{getD-set-same, getD-set-other}
+use Rattle.std.proofs.shelf.Lists.{ext-getD, getD-replicate, getD-set-same, getD-set-other, length-replicate}
 use Rattle.table.specs.Cells.{empty-cell}
 use Rattle.table.specs.Filled.{cell-of}
 use Rattle.table.proofs.Soundness.{cells-keys, cells-filled, none-apart}
@@ -31,5 +31,6 @@ returns g c =
     record {
       sound = record { count = ap length held; cells = cells-filled code items (length items) [] is (omega arith); apart = none-apart (g .K·Key .same) _ held };
       keys = held;
+      cells = ext-getD empty-cell items (replicate (length items) empty-cell) (sym (length-replicate (length items) empty-cell)) (λ i lt. c .loop-cell .inv i (omega arith) ∙ sym (getD-replicate (length items) i empty-cell empty-cell lt));
       capacity = long;
     }
