@@ -1,4 +1,5 @@
 pub mod Facts
+pub mod Gates
 pub mod Letters
 pub mod Names
 pub mod Orders
