@@ -1,3 +1,6 @@
+ghost use mathlib.Core.Path.{_≡_};
+ghost use lib.ListN.{length, replicate};
+ghost use Rattle.table.specs.Cells.{empty-cell};
 use super::keys::Clashing;
 use super::keys::ClashingKey;
 use super::keys::Labelled;
@@ -7,6 +10,7 @@ use super::keys::NumberKey;
 use std::test::*;
 use table::Cell;
 use table::Full;
+use table::Key;
 use table::Table;
 
 // The number that was answered, or nothing where the table was full.
@@ -15,6 +19,23 @@ fn number(answer: Result<usize, Full>) -> Option<usize> {
         Ok(number) => Some(number),
         Err(Full) => None,
     }
+}
+
+// Who lends cells finds them empty again, since clearing says so of the cells that were lent.
+fn use_and_clear<K: Key>(cells: &mut [Cell<K>], key: K) -> Option<usize>
+    ensures { λ _. ⌜ now (cells .exit) ≡ replicate (length (now (cells .entry))) empty-cell ⌝ }
+{
+    let mut table = Table::open(cells);
+    let answer = number(table.find_or_add(key));
+    table.clear();
+    answer
+}
+
+#[test]
+fn lent_cells() -> Result<(), Fail> {
+    let mut cells = [Cell::<Number>::empty(); 2];
+    check_eq(use_and_clear(&mut cells, Number(6)), Some(0))?;
+    check_eq(use_and_clear(&mut cells, Number(7)), Some(0))
 }
 
 #[test]

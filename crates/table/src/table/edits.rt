@@ -1,6 +1,7 @@
 ghost use mathlib.Core.List.{[], _∷_, _++_};
 ghost use mathlib.Core.Path.{_≡_};
 ghost use Prim.Native.Nat.{_-_, _<_};
+ghost use denote.Ref.{name};
 ghost use lib.ListN.{length, replicate, take};
 ghost use Rattle.table.specs.Cells.{empty-cell};
 ghost use Rattle.table.specs.Keys.{Absent};
@@ -18,6 +19,7 @@ impl<'a, K: Key> Table<'a, K> {
         ensures keys { λ r. ⌜ keys-of r ≡ [] ⌝ }
         ensures cells { λ r. ⌜ now (r .cells) ≡ replicate (capacity-of r) empty-cell ⌝ }
         ensures capacity { λ r. ⌜ capacity-of r ≡ length (now (cells .entry)) ⌝ }
+        ensures lent { λ r. ⌜ name (r .cells) ≡ name (cells .entry) ⌝ }
         ensures laws { λ r. ⌜ TableLaws (K·Key .same) (K·Key .code) (capacity-of r) ⌝ }
     {
         let mut table = Table { cells, len: 0 };
@@ -31,6 +33,7 @@ impl<'a, K: Key> Table<'a, K> {
         ensures keys { λ _. ⌜ keys-of (now (self .exit)) ≡ [] ⌝ }
         ensures cells { λ _. ⌜ now (now (self .exit) .cells) ≡ replicate (capacity-of (now (self .exit))) empty-cell ⌝ }
         ensures capacity { λ _. ⌜ capacity-of (now (self .exit)) ≡ capacity-of (now (self .entry)) ⌝ }
+        ensures lent { λ _. ⌜ name (now (self .exit) .cells) ≡ name (now (self .entry) .cells) ⌝ }
     {
         for cell in self.cells.iter_mut() {
             *cell = Cell::empty();
@@ -44,6 +47,7 @@ impl<'a, K: Key> Table<'a, K> {
         ensures sound { λ _. ⌜ Sound (K·Key .same) (K·Key .code) (now (self .exit)) ⌝ }
         ensures keys { λ r. ⌜ FindsOrAdds (K·Key .same) (capacity-of (now (self .entry))) (keys-of (now (self .entry))) key r (keys-of (now (self .exit))) ⌝ }
         ensures capacity { λ _. ⌜ capacity-of (now (self .exit)) ≡ capacity-of (now (self .entry)) ⌝ }
+        ensures lent { λ _. ⌜ name (now (self .exit) .cells) ≡ name (now (self .entry) .cells) ⌝ }
     {
         if let Some(number) = self.find(&key) {
             return Ok(number);
@@ -64,6 +68,7 @@ impl<'a, K: Key> Table<'a, K> {
         ensures sound { λ _. ⌜ Sound (K·Key .same) (K·Key .code) (now (self .exit)) ⌝ }
         ensures keys { λ _. ⌜ keys-of (now (self .exit)) ≡ keys-of (now (self .entry)) ++ (key ∷ []) ⌝ }
         ensures capacity { λ _. ⌜ capacity-of (now (self .exit)) ≡ capacity-of (now (self .entry)) ⌝ }
+        ensures lent { λ _. ⌜ name (now (self .exit) .cells) ≡ name (now (self .entry) .cells) ⌝ }
     {
         let number = self.len;
         let home = self.home(&key);
@@ -89,6 +94,7 @@ impl<'a, K: Key> Table<'a, K> {
         ensures sound { λ _. ⌜ Sound (K·Key .same) (K·Key .code) (now (self .exit)) ⌝ }
         ensures keys { λ _. ⌜ keys-of (now (self .exit)) ≡ take count (keys-of (now (self .entry))) ⌝ }
         ensures capacity { λ _. ⌜ capacity-of (now (self .exit)) ≡ capacity-of (now (self .entry)) ⌝ }
+        ensures lent { λ _. ⌜ name (now (self .exit) .cells) ≡ name (now (self .entry) .cells) ⌝ }
     {
         while self.len > count {
             self.drop_last();
@@ -103,6 +109,7 @@ impl<'a, K: Key> Table<'a, K> {
         ensures len { λ _. ⌜ now (self .exit) .len ≡ now (self .entry) .len - 1 ⌝ }
         ensures keys { λ _. ⌜ keys-of (now (self .exit)) ≡ take (now (self .entry) .len - 1) (keys-of (now (self .entry))) ⌝ }
         ensures capacity { λ _. ⌜ capacity-of (now (self .exit)) ≡ capacity-of (now (self .entry)) ⌝ }
+        ensures lent { λ _. ⌜ name (now (self .exit) .cells) ≡ name (now (self .entry) .cells) ⌝ }
     {
         let number = self.len - 1;
         let last = self.cells[number];

@@ -33,4 +33,5 @@ returns g c =
       keys = held;
       cells = ext-getD empty-cell items (replicate (length items) empty-cell) (sym (length-replicate (length items) empty-cell)) (λ i lt. c .loop-cell .inv i (omega arith) ∙ sym (getD-replicate (length items) i empty-cell empty-cell lt));
       capacity = long;
+      lent = refl;
     }

@@ -50,4 +50,5 @@ returns g c =
       len = refl;
       keys = held;
       capacity = cells-long code _ (length cells) (take n keys) is few;
+      lent = refl;
     }

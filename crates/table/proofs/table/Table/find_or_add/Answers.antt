@@ -7,10 +7,10 @@ use Rattle.table.specs.Tables.{capacity-of, keys-of, FindsOrAdds, found, appen
 use Rattle.table.proofs.table.Table.find_or_add.Needs as need
 
 pub returns-in-Some : need.returns-in-Some
-returns-in-Some g c = record { sound = c .pre .sound; keys = found (c .in-Some .number) (c .in-Some .ensures tt); capacity = refl }
+returns-in-Some g c = record { sound = c .pre .sound; keys = found (c .in-Some .number) (c .in-Some .ensures tt); capacity = refl; lent = refl }
 
 pub returns-then-number-self : need.returns-then-number-self
-returns-then-number-self g c = record { sound = c .pre .sound; keys = refused _ (c .in-rest .ensures tt) (c .pre .sound .count ∙ c .if-number-self .taken); capacity = refl }
+returns-then-number-self g c = record { sound = c .pre .sound; keys = refused _ (c .in-rest .ensures tt) (c .pre .sound .count ∙ c .if-number-self .taken); capacity = refl; lent = refl }
 
 pub append-requires : need.append-requires
 append-requires g c κs = record { sound = c .pre .sound; absent = c .in-rest .ensures tt; room = omega (arith, c .pre .sound .count, c .pre .sound .cells .few) }
@@ -22,4 +22,4 @@ returns g c =
     let key = c .args .key in
     let F : ℕ → List (g .K .Denot) → Type 0 = λ n ks. FindsOrAdds (g .K·Key .same) (capacity-of (c .args .self .now)) keys key (Ok n) ks in
     let new = appended (c .in-rest .ensures tt) (omega (arith, c .pre .sound .count, c .pre .sound .cells .few)) in
-    record { sound = said .sound; keys = subst (F _) (sym (said .keys)) (subst (λ n. F n (keys ++ (key ∷ []))) (c .pre .sound .count) new); capacity = said .capacity }
+    record { sound = said .sound; keys = subst (F _) (sym (said .keys)) (subst (λ n. F n (keys ++ (key ∷ []))) (c .pre .sound .count) new); capacity = said .capacity; lent = said .lent }
