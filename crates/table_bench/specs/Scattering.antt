@@ -1,7 +1,6 @@
 -- How the keys of the benchmark are compared and hashed.
 use mathlib.Core.Bool.{Bool}
-use Prim.Native.Nat.{ℕ, _/_, _%_, _^_}
-use lib.Bits.{bitXor}
+use Prim.Native.Nat.{ℕ, _/_, _^_}
 use lib.Dec.{eqb}
 use Rattle.table_bench.specs.declared.keys.Scattered.{Scattered}
 use Rattle.table.specs.Keys.{KeyLaws}

@@ -1,4 +1,4 @@
-ghost use Prim.Native.Nat.{_%_, _^_};
+ghost use Prim.Native.Nat.{_%_};
 ghost use lib.Dec.{eqb};
 ghost use Rattle.table.specs.KeysBy.{laws-by};
 use table::Key;
