@@ -1,5 +1,5 @@
 -- Outputs of a net.
-use Rattle.std.specs.Prelude.{ℕ, [], ◌∷◌, replicate, refl}
+use Rattle.std.specs.Prelude.{ℕ, replicate, refl}
 use Rattle.std.proofs.Common.{lit≤}
 use Rattle.model.specs.declared.name.Name.{Name}
 use Rattle.model.specs.declared.output.Output.{Output}

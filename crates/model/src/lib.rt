@@ -1,5 +1,7 @@
 // The vocabulary of the checker: what a refused call tells, the order of facts, gates and outputs,
 // roots and nodes.
+#![tactic(auto)]
+
 mod decomposition;
 mod fact;
 mod fault;

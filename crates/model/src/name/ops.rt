@@ -1,8 +1,9 @@
-ghost use Rattle.std.specs.Prelude.{◌≡◌, true, false, [], length, Some, Decides, MatchOption, ◌==◌};
+ghost use Rattle.std.specs.Prelude.{◌≡◌, true, false, [], length, Some, Decides, MatchOption, ◌==◌, ◌&&◌, nat_eq};
+ghost use Rattle.std.specs.Cmp.Lexicographic.{pointwise};
 ghost use Rattle.model.specs.Names.{every, is_letter, is_name, is_word_byte};
 ghost use Rattle.model.specs.Spelling.{spelling};
 ghost use Rattle.std.specs.Cmp.Rules.{comparing};
-ghost use Rattle.std.proofs.Common.{rules, arith};
+ghost use Rattle.std.proofs.Common.{rules};
 
 use super::{MAX_LENGTH, Name};
 use std::fmt;
@@ -51,9 +52,9 @@ impl Name {
 }
 
 impl PartialEq for Name {
-    ghost equals = { λ a b r. Decides r ((a.len ≡ b.len) × (a.bytes ≡ b.bytes)) };
+    ghost eq = { λ x y. (x.len == y.len) && pointwise nat_eq x.bytes y.bytes };
 
-    ghost laws = { first_of (Prim.search (comparing, rules), Prim.grind (arith, Self.row.coded.inj)) };
+    ghost laws = { Prim.search (comparing, rules) };
 
     fn eq(&self, other: &Name) -> bool
         ensures { Decides result ((self.now.len ≡ other.now.len) × (self.now.bytes ≡ other.now.bytes)) }
