@@ -1,6 +1,7 @@
 -- The laws over whole runs of a table.
 use Rattle.std.proofs.Common.{◌≡◌, ℕ, Bool, true, List, [], ◌∷◌, ◌++◌, length, take, Some, Ok, All, Result, sym, refl, ap, ◌∙◌, ⊎_elim, arith}
 use Rattle.std.proofs.lemmas.List.{length-take}
+use Rattle.std.proofs.lemmas.List.Elements.{All-head, All-tail}
 use Rattle.std.proofs.lemmas.Bool.{cases_order, cases_lt, true≢false}
 use Rattle.std.specs.List.{slice_get}
 use Rattle.table.specs.Cells.{keys_in}
@@ -65,7 +66,7 @@ module _ {K : Type 0} (same : K → K → Bool) (cap : ℕ) where
 
   kept_run : (keys : List K) (es : List (Event K)) (after : List K) (n : ℕ) (x : K) → All (Spares n) es → slice_get keys n ≡ Some x → Runs same cap keys es after → slice_get after n ≡ Some x
   kept_run keys _ _ n x all is stays = is
-  kept_run keys _ after n x all is (then {mid = mid} {e = e} {es = es} does run) = kept_run mid es after n x all.1 (kept_does keys mid e n x all.0 is does) run
+  kept_run keys _ after n x all is (then {mid = mid} {e = e} {es = es} does run) = kept_run mid es after n x (All-tail (Spares n) e es all) (kept_does keys mid e n x (All-head (Spares n) e es all) is does) run
 
   module _ (code : K → ℕ) (laws : KeyLaws same code) where
     -- an answer is the number of an equal key

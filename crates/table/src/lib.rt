@@ -1,4 +1,6 @@
 // A table that gives equal keys one number, over lent cells.
+#![tactic(auto)]
+
 mod cell;
 mod key;
 mod table;

@@ -6,7 +6,7 @@ use Rattle.table.proofs.table.Table.cut.Goals as goal
 pub loop-self-preserved : goal.loop-self-preserved
 loop-self-preserved g c =
     let so = c.loop-self.invariant in
-    let said = c.drop-last.ensures in
+    let said = c.drop_last.ensures in
     (said.sound, ap (take c.args.count) said.keys ∙ take-take c.args.count _ (keys_of c.loop-self.self) (omega arith) ∙ so.1, said.capacity ∙ so.2, said.lent ∙ so.3)
 
 pub returns : goal.returns

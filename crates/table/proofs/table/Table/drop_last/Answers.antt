@@ -1,4 +1,4 @@
-use Rattle.std.proofs.Common.{◌≡◌, ◌+◌, ◌-◌, ◌<◌, ◌≤◌, [], ◌∷◌, ◌++◌, length, take, Some, sym, refl, ap, ◌∙◌, subst, arith}
+use Rattle.std.proofs.Common.{◌≡◌, ◌-◌, ◌<◌, ◌≤◌, [], ◌∷◌, ◌++◌, length, take, Some, sym, refl, ap, ◌∙◌, subst, arith}
 use Rattle.std.proofs.lemmas.List.{length-take-le}
 use Rattle.std.specs.List.{slice_get}
 use Rattle.table.specs.Cells.{keys_in}
@@ -9,14 +9,14 @@ use Rattle.table.proofs.Soundness.{filled_cell, one_less, cells_long, cells_keys
 use Rattle.table.proofs.table.Table.drop_last.Goals as goal
 
 -- the last cell holds a key
-pub returns-in-default : goal.returns-in-default
-returns-in-default g c =
+pub returns-in_default : goal.returns-in_default
+returns-in_default g c =
     let t = c.args.self.now in
     let cells = t.cells.now in
     let so = c.requires.sound in
     let last = filled_cell g.K.Key.code cells so.cells (t.len - 1) c.index-self-number.result (omega (arith, so.count, so.cells.few, c.requires.some)) in
     let key = nth_some (keys_in cells) (t.len - 1) (omega (arith, so.count, c.requires.some)) in
-    absurd (none_some key.0 (sym c.in-default.is ∙ ap (λ x. x.key) last ∙ key.1))
+    absurd (none_some key.0 (sym c.in_default.is ∙ ap (λ x. x.key) last ∙ key.1))
 
 pub returns : goal.returns
 returns g c =

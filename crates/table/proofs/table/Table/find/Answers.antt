@@ -11,6 +11,6 @@ follow-requires g c =
     record {
       filled = c.requires.sound.cells;
       chain =
-          ap (λ x. x.first) (c.cell-at-first.ensures ∙ filled_cell g.K.Key.code cells c.requires.sound.cells c.home-home.result empty_cell home.within)
+          ap (λ x. x.first) (c.cell_at-first.ensures ∙ filled_cell g.K.Key.code cells c.requires.sound.cells c.home-home.result empty_cell home.within)
           ∙ ap (λ b. latest g.K.Key.code (length cells) (keys_in cells) b (length (keys_in cells))) home.value;
     }

@@ -27,31 +27,31 @@ loop-at-init g c =
     let S : Option ℕ → Type 0 = Searching g.K.Key.same g.K.Key.code g.K.Key.laws (length c.args.cells.now) keys c.args.key.now (length keys) in
     (length keys, subst S (sym c.requires.chain) (start _ _ _ _ _ _))
 
-pub cell-at-cell-requires : goal.cell-at-cell-requires
-cell-at-cell-requires g c =
-    let lt = number_inside _ _ _ _ _ _ _ _ (at_number g (goal.at.cell-at-cell-requires g c).In-Some) in
+pub cell_at-cell-requires : goal.cell_at-cell-requires
+cell_at-cell-requires g c =
+    let lt = number_inside _ _ _ _ _ _ _ _ (at_number g (goal.at.cell_at-cell-requires g c).In-Some) in
     omega (arith, c.requires.filled.few)
 
 pub returns-then-holds : goal.returns-then-holds
 returns-then-holds g c =
     let way = (goal.at.returns-then-holds g c).In-Some in
     found_here _ _ _ _ _ _ _ _ (at_number g way)
-    (ap (λ x. has_same g.K.Key.same c.args.key.now x.key) (sym (the_cell g way _ c.cell-at-cell.ensures)) ∙ sym c.if-holds.ensures)
+    (ap (λ x. has_same g.K.Key.same c.args.key.now x.key) (sym (the_cell g way _ c.cell_at-cell.ensures)) ∙ sym c.if-holds.ensures)
 
 pub loop-at-smaller : goal.loop-at-smaller
 loop-at-smaller g c =
     let way = (goal.at.loop-at-smaller g c).In-Some in
-    let R : Option ℕ → Type 0 = λ at. reach c.cell-at-cell.result.next < reach at in
-    subst R (sym c.in-Some.is) (falls _ _ _ _ _ _ _ _ (at_number g way) _ (ap (λ x. x.next) (the_cell g way _ c.cell-at-cell.ensures)))
+    let R : Option ℕ → Type 0 = λ at. reach c.cell_at-cell.result.next < reach at in
+    subst R (sym c.in-Some.is) (falls _ _ _ _ _ _ _ _ (at_number g way) _ (ap (λ x. x.next) (the_cell g way _ c.cell_at-cell.ensures)))
 
 pub loop-at-preserved : goal.loop-at-preserved
 loop-at-preserved g c =
     let way = (goal.at.loop-at-preserved g c).In-Some in
-    let is = the_cell g way _ c.cell-at-cell.ensures in
+    let is = the_cell g way _ c.cell_at-cell.ensures in
     let other = ap (λ x. has_same g.K.Key.same c.args.key.now x.key) (sym is) ∙ sym c.if-holds.ensures in
     (c.in-Some.number, step _ _ _ _ _ _ _ _ (at_number g way) other _ (ap (λ x. x.next) is))
 
 pub returns : goal.returns
 returns g c =
     let S : Option ℕ → Type 0 = Searching g.K.Key.same g.K.Key.code g.K.Key.laws (length c.args.cells.now) (keys_in c.args.cells.now) c.args.key.now c.loop-at.invariant.0 in
-    finish _ _ _ _ _ _ _ (subst S c.in-default.is c.loop-at.invariant.1)
+    finish _ _ _ _ _ _ _ (subst S c.in_default.is c.loop-at.invariant.1)
