@@ -123,7 +123,7 @@ fn read_line(
 fn begins_output(name: &Name) -> bool
     ensures { result ≡ bytes_eq (spelling name.now) (codes "out") }
 {
-    name.as_bytes() == b"out"
+    name.as_bytes() == b"out".as_slice()
 }
 
 // The rest of an output line: a name.

@@ -6,39 +6,39 @@ use Rattle.arithmetic.proofs.NetLaws.{net_laws}
 use Rattle.arithmetic.proofs.RingLaws.{derived_laws}
 use Rattle.arithmetic.proofs.net_values.evaluate.Goals as goal
 
-pub returns-then-gates-gt-MAX-GATES : goal.returns-then-gates-gt-MAX-GATES
-returns-then-gates-gt-MAX-GATES g c =
+pub returns-then-gates-gt-MAX_GATES : goal.returns-then-gates-gt-MAX_GATES
+returns-then-gates-gt-MAX_GATES g c =
     let R = g.A.Arithmetic.ring in
     let met = g.met.A.Arithmetic in
     let before = c.args.values.now in
     let E : Fault → Type 0 = λ f. Evaluates R c.args.facts c.args.gates.now c.args.outputs.now c.args.assignment before (Err f) before in
     record {
-      values = subst E (sym c.at.ensures) (too_large (λ roomy. ⊎_elim (λ many. omega (arith, roomy.few)) (λ short. omega (arith, roomy.fit, short)) c.then-gates-gt-MAX-GATES.either));
+      values = subst E (sym c.at.ensures) (too_large (λ roomy. ⊎_elim (λ many. omega (arith, roomy.few)) (λ short. omega (arith, roomy.fit, short)) c.then-gates-gt-MAX_GATES.either));
       laws = net_laws R met.closed;
       derived = derived_laws R met.closed met.laws;
     }
 
-pub returns-in-err-check-net : goal.returns-in-err-check-net
-returns-in-err-check-net g c =
+pub returns-in_err-check_net : goal.returns-in_err-check_net
+returns-in_err-check_net g c =
     let R = g.A.Arithmetic.ring in
     let met = g.met.A.Arithmetic in
-    let p = err_from_is_err_and c.from-residual.result c.from-residual.ensures.1 in
-    let room : Roomy _ _ = record { few = c.if-gates-gt-MAX-GATES.false; fit = c.if-gates-values.false } in
+    let p = err_from_is_err_and c.from_residual.result c.from_residual.ensures.1 in
+    let room : Roomy _ _ = record { few = c.if-gates-gt-MAX_GATES.false; fit = c.if-gates-values.false } in
     record {
-      values = rw (p.1, p.2) (refused room c.in-err-check-net.field-0.0 c.in-err-check-net.ensures.verdict);
+      values = rw (p.1, p.2) (refused room c.in_err-check_net.field-0.0 c.in_err-check_net.ensures.verdict);
       laws = net_laws R met.closed;
       derived = derived_laws R met.closed met.laws;
     }
 
-pub returns-in-err-check-assignment : goal.returns-in-err-check-assignment
-returns-in-err-check-assignment g c =
+pub returns-in_err-check_assignment : goal.returns-in_err-check_assignment
+returns-in_err-check_assignment g c =
     let R = g.A.Arithmetic.ring in
     let met = g.met.A.Arithmetic in
-    let p = err_from_is_err_and c.from-residual-in-err-check-assignment.result c.from-residual-in-err-check-assignment.ensures.1 in
-    let room : Roomy _ _ = record { few = c.if-gates-gt-MAX-GATES.false; fit = c.if-gates-values.false } in
-    let why = c.in-err-check-assignment.ensures in
+    let p = err_from_is_err_and c.from_residual-in_err-check_assignment.result c.from_residual-in_err-check_assignment.ensures.1 in
+    let room : Roomy _ _ = record { few = c.if-gates-gt-MAX_GATES.false; fit = c.if-gates-values.false } in
+    let why = c.in_err-check_assignment.ensures in
     record {
-      values = rw (p.1, p.2, why.0) (unassigned room c.in-ok-check-net.ensures.verdict why.1);
+      values = rw (p.1, p.2, why.0) (unassigned room c.in_ok-check_net.ensures.verdict why.1);
       laws = net_laws R met.closed;
       derived = derived_laws R met.closed met.laws;
     }
@@ -47,9 +47,9 @@ pub returns : goal.returns
 returns g c =
     let R = g.A.Arithmetic.ring in
     let met = g.met.A.Arithmetic in
-    let room : Roomy _ _ = record { few = c.if-gates-gt-MAX-GATES.false; fit = c.if-gates-values.false } in
+    let room : Roomy _ _ = record { few = c.if-gates-gt-MAX_GATES.false; fit = c.if-gates-values.false } in
     record {
-      values = rw c.write-values.ensures (evaluated room c.in-ok-check-net.ensures.verdict c.in-ok-check-assignment.ensures);
+      values = rw c.write_values.ensures (evaluated room c.in_ok-check_net.ensures.verdict c.in_ok-check_assignment.ensures);
       laws = net_laws R met.closed;
       derived = derived_laws R met.closed met.laws;
     }

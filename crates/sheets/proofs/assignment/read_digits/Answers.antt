@@ -9,8 +9,8 @@ pub returns-then-fact-ge64 : goal.returns-then-fact-ge64
 returns-then-fact-ge64 c x small is =
     no_bit c.args.line.now c.loop-fact.fact c.loop-fact-test.true x is small c.if-fact-ge64.true c.in-1.is
 
-pub returns-in-default : goal.returns-in-default
-returns-in-default c x small is =
+pub returns-in_default : goal.returns-in_default
+returns-in_default c x small is =
     let line = c.args.line.now in
     let n = c.loop-fact.fact in
     no_digit line n c.loop-fact-test.true x is (holds x n) (by_holds line n c.loop-fact-test.true x is) (λ e. omega arith) (λ e. omega arith)

@@ -17,27 +17,27 @@ whole : (c : After-new-cursor) (r : Result (List Fact) Fault) → Reads FactStep
 whole c r reads =
     let S : List Fact → Type 0 = λ fs. Reads FactStep fs (speaking (following c.new-cursor.result)) r in
     let L : List Line → Type 0 = λ ls. Reads FactStep [] (speaking ls) r in
-    opened c.in-ok-check-heading.ensures (subst L c.new-cursor.ensures.lines (subst S c.requires reads))
+    opened c.in_ok-check_heading.ensures (subst L c.new-cursor.ensures.lines (subst S c.requires reads))
 
-pub returns-in-err-check-heading : goal.returns-in-err-check-heading
-returns-in-err-check-heading c =
-    let p = err_from_is_err_and c.from-residual.result c.from-residual.ensures.1 in
-    rw (p.1, p.2) (unopened _ c.in-err-check-heading.ensures)
+pub returns-in_err-check_heading : goal.returns-in_err-check_heading
+returns-in_err-check_heading c =
+    let p = err_from_is_err_and c.from_residual.result c.from_residual.ensures.1 in
+    rw (p.1, p.2) (unopened _ c.in_err-check_heading.ensures)
 
 pub loop-cursor-preserved : goal.loop-cursor-preserved
 loop-cursor-preserved c r rest =
-    let said = c.in-ok-read-fact.ensures in
+    let said = c.in_ok-read_fact.ensures in
     let L : List Line → Type 0 = λ ls. Reads FactStep (facts_of c.loop-cursor.order) ls r in
-    let F : List Line → Type 0 = λ ls. Reads FactStep (facts_of c.read-fact.new.order) (speaking ls) r in
+    let F : List Line → Type 0 = λ ls. Reads FactStep (facts_of c.read_fact.new.order) (speaking ls) r in
     c.loop-cursor.invariant r
     (subst L (sym c.loop-cursor-test.ensures.lines.0) (goes_on _ said.step (subst F (same_following _ _ said.stays) rest)))
 
-pub returns-in-err-read-fact : goal.returns-in-err-read-fact
-returns-in-err-read-fact c =
-    let p = err_from_is_err_and c.from-residual-in-err-read-fact.result c.from-residual-in-err-read-fact.ensures.1 in
-    let said = c.in-err-read-fact.ensures.step in
-    let L : List Line → Type 0 = λ ls. Reads FactStep (facts_of c.loop-cursor.order) ls (Err (fault said.0 c.next-line.new.self.line)) in
-    let way = (goal.at.returns-in-err-read-fact c).After-new-cursor in
+pub returns-in_err-read_fact : goal.returns-in_err-read_fact
+returns-in_err-read_fact c =
+    let p = err_from_is_err_and c.from_residual-in_err-read_fact.result c.from_residual-in_err-read_fact.ensures.1 in
+    let said = c.in_err-read_fact.ensures.step in
+    let L : List Line → Type 0 = λ ls. Reads FactStep (facts_of c.loop-cursor.order) ls (Err (fault said.0 c.next_line.new.self.line)) in
+    let way = (goal.at.returns-in_err-read_fact c).After-new-cursor in
     rw (p.1, p.2, said.1) (whole way _ (c.loop-cursor.invariant _ (subst L (sym c.loop-cursor-test.ensures.lines.0) (stops said.0 said.2))))
 
 pub returns : goal.returns

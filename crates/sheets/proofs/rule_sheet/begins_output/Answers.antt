@@ -7,4 +7,4 @@ use Rattle.sheets.proofs.rule_sheet.begins_output.Goals as goal
 pub returns : goal.returns
 returns c =
     let D : List ℕ → Type 0 = λ bs. Decides c.eq.result (bs ≡ codes "out") in
-    same_from_decides _ _ (subst D c.as-bytes.ensures (slice_eq-Decides Decides-eqb _ _ _ c.eq.ensures)) (bytes_eq-Decides (spelling c.args.name.now) (codes "out"))
+    same_from_decides _ _ (subst D c.as_bytes.ensures (slice_eq-Decides Decides-eqb _ _ _ c.eq.ensures)) (bytes_eq-Decides (spelling c.args.name.now) (codes "out"))

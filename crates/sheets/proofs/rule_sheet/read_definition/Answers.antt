@@ -9,17 +9,17 @@ use Rattle.sheets.specs.declared.token.Token.TheVariants.{Equals}
 use Rattle.sheets.proofs.FormulaSteps.{next_fewer}
 use Rattle.sheets.proofs.rule_sheet.read_definition.Goals as goal
 
-pub returns-in-err-equals : goal.returns-in-err-equals
-returns-in-err-equals c =
-    let said = c.in-err-equals.ensures in
-    let p = err_from_is_err_and c.from-residual.result c.from-residual.ensures.1 in
+pub returns-in_err-equals : goal.returns-in_err-equals
+returns-in_err-equals c =
+    let said = c.in_err-equals.ensures in
+    let p = err_from_is_err_and c.from_residual.result c.from_residual.ensures.1 in
     record { stays = said.stays; lent = record { gates = refl; outputs = refl }; sound = c.requires.sound; capacity = refl; definition = rw (p.1, p.2) (NoForm, said.next.0, ReadDefinition.formless (λ s e. said.next.1 _ e)) }
 
-pub returns-in-err-signal : goal.returns-in-err-signal
-returns-in-err-signal c =
-    let first = c.in-ok-equals.ensures in
-    let said = c.in-err-signal.ensures in
-    let p = err_from_is_err_and c.from-residual-in-err-signal.result c.from-residual-in-err-signal.ensures.1 in
+pub returns-in_err-signal : goal.returns-in_err-signal
+returns-in_err-signal c =
+    let first = c.in_ok-equals.ensures in
+    let said = c.in_err-signal.ensures in
+    let p = err_from_is_err_and c.from_residual-in_err-signal.result c.from_residual-in_err-signal.ensures.1 in
     record {
       stays = same_then _ _ _ first.stays said.stays;
       lent = said.lent;
@@ -30,8 +30,8 @@ returns-in-err-signal c =
 
 pub returns-in-Ok : goal.returns-in-Ok
 returns-in-Ok c =
-    let first = c.in-ok-equals.ensures in
-    let said = c.in-ok-signal.ensures in
+    let first = c.in_ok-equals.ensures in
+    let said = c.in_ok-signal.ensures in
     let defined = c.in-Ok.ensures in
     record {
       stays = same_then _ _ _ first.stays said.stays;
@@ -43,8 +43,8 @@ returns-in-Ok c =
 
 pub returns-in-Err : goal.returns-in-Err
 returns-in-Err c =
-    let first = c.in-ok-equals.ensures in
-    let said = c.in-ok-signal.ensures in
+    let first = c.in_ok-equals.ensures in
+    let said = c.in_ok-signal.ensures in
     let defined = c.in-Err.ensures in
     let both = same_then _ _ _ first.stays said.stays in
     record {
@@ -57,5 +57,5 @@ returns-in-Err c =
 
 pub side-requires : goal.side-requires
 side-requires c =
-    let fewer = next_fewer _ _ Equals c.in-ok-equals.ensures.next in
+    let fewer = next_fewer _ _ Equals c.in_ok-equals.ensures.next in
     record { sound = c.requires.sound; tidy = c.requires.tidy; few = omega (arith, c.requires.few, fewer.few); short = omega (arith, c.requires.short, fewer.short) }

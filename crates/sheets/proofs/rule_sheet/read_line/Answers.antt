@@ -12,27 +12,27 @@ use Rattle.sheets.specs.declared.token.Token.TheVariants.{Identifier}
 use Rattle.sheets.proofs.FormulaSteps.{next_fewer}
 use Rattle.sheets.proofs.TokenCounts.{ahead_short}
 use Rattle.sheets.proofs.rule_sheet.read_line.Goals as goal
-use Rattle.sheets.proofs.rule_sheet.read_line.Goals.{Else-count-brackets-gt-MAX-BRACKETS}
+use Rattle.sheets.proofs.rule_sheet.read_line.Goals.{Else-count_brackets-gt-MAX_BRACKETS}
 
-few : (c : Else-count-brackets-gt-MAX-BRACKETS) → brackets (tokens (current c.args.cursor.now).bytes) ≤ 32
-few c = omega (arith, c.count-brackets.ensures)
+few : (c : Else-count_brackets-gt-MAX_BRACKETS) → brackets (tokens (current c.args.cursor.now).bytes) ≤ 32
+few c = omega (arith, c.count_brackets.ensures)
 
-pub returns-then-count-brackets-gt-MAX-BRACKETS : goal.returns-then-count-brackets-gt-MAX-BRACKETS
-returns-then-count-brackets-gt-MAX-BRACKETS c = record {
+pub returns-then-count_brackets-gt-MAX_BRACKETS : goal.returns-then-count_brackets-gt-MAX_BRACKETS
+returns-then-count_brackets-gt-MAX_BRACKETS c = record {
   stays = record { text = refl; line = refl; end = refl };
   lent = record { gates = refl; outputs = refl };
   sound = c.requires.sound;
   capacity = refl;
-  step = (TooManyBrackets, c.refuse.ensures, RuleStep.crowded (omega (arith, c.count-brackets.ensures)));
+  step = (TooManyBrackets, c.refuse.ensures, RuleStep.crowded (omega (arith, c.count_brackets.ensures)));
 }
 
-pub returns-in-err-name : goal.returns-in-err-name
-returns-in-err-name c =
-    let said = c.in-err-name.ensures in
+pub returns-in_err-name : goal.returns-in_err-name
+returns-in_err-name c =
+    let said = c.in_err-name.ensures in
     let notation = c.args.notation in
-    let way = (goal.at.returns-in-err-name c).Else-count-brackets-gt-MAX-BRACKETS in
+    let way = (goal.at.returns-in_err-name c).Else-count_brackets-gt-MAX_BRACKETS in
     let F : List (List ℕ) → Type 0 = λ ts. (l : RuleLine notation) → Form ts l → ⊥ in
-    let p = err_from_is_err_and c.from-residual.result c.from-residual.ensures.1 in
+    let p = err_from_is_err_and c.from_residual.result c.from_residual.ensures.1 in
     record {
       stays = said.stays;
       lent = record { gates = refl; outputs = refl };
@@ -41,17 +41,17 @@ returns-in-err-name c =
       step = rw (p.1, p.2) (NoForm, said.next.0, RuleStep.formless (few way) (subst F c.requires.start (no_name notation _ said.next.1)));
     }
 
-pub returns-then-begins-output : goal.returns-then-begins-output
-returns-then-begins-output c =
+pub returns-then-begins_output : goal.returns-then-begins_output
+returns-then-begins_output c =
     let notation = c.args.notation in
     let d = c.args.draft.now in
     let t = c.args.names.now in
-    let d' = c.read-output.new.draft in
+    let d' = c.read_output.new.draft in
     let l = current c.args.cursor.now in
     let mid = c.identifier.new.self in
-    let first = c.in-ok-name.ensures in
-    let said = c.read-output.ensures in
-    let way = (goal.at.returns-then-begins-output c).Else-count-brackets-gt-MAX-BRACKETS in
+    let first = c.in_ok-name.ensures in
+    let said = c.read_output.ensures in
+    let way = (goal.at.returns-then-begins_output c).Else-count_brackets-gt-MAX_BRACKETS in
     let is = sym c.requires.start ∙ first.next.0 in
     record {
       stays = same_then _ _ _ first.stays said.stays;
@@ -60,23 +60,23 @@ returns-then-begins-output c =
       capacity = refl;
       step =
           answered notation t d t d' l mid.line first.stays.line (ReadOutput (keys_of t) d (ahead mid) d')
-          (output_line notation t d c.requires.tidy d' (tokens l.bytes) (ahead mid) (few way) c.in-ok-name.name is (sym c.if-begins-output.ensures))
-          c.read-output.result said.output;
+          (output_line notation t d c.requires.tidy d' (tokens l.bytes) (ahead mid) (few way) c.in_ok-name.name is (sym c.if-begins_output.ensures))
+          c.read_output.result said.output;
     }
 
-pub returns-else-begins-output : goal.returns-else-begins-output
-returns-else-begins-output c =
+pub returns-else-begins_output : goal.returns-else-begins_output
+returns-else-begins_output c =
     let notation = c.args.notation in
     let d = c.args.draft.now in
     let t = c.args.names.now in
-    let t' = c.read-definition.new.names in
-    let d' = c.read-definition.new.draft in
+    let t' = c.read_definition.new.names in
+    let d' = c.read_definition.new.draft in
     let l = current c.args.cursor.now in
     let mid = c.identifier.new.self in
-    let name = c.in-ok-name.name in
-    let first = c.in-ok-name.ensures in
-    let said = c.read-definition.ensures in
-    let way = (goal.at.returns-else-begins-output c).Else-count-brackets-gt-MAX-BRACKETS in
+    let name = c.in_ok-name.name in
+    let first = c.in_ok-name.ensures in
+    let said = c.read_definition.ensures in
+    let way = (goal.at.returns-else-begins_output c).Else-count_brackets-gt-MAX_BRACKETS in
     let is = sym c.requires.start ∙ first.next.0 in
     record {
       stays = same_then _ _ _ first.stays said.stays;
@@ -85,15 +85,15 @@ returns-else-begins-output c =
       capacity = said.capacity;
       step =
           answered notation t d t' d' l mid.line first.stays.line (ReadDefinition notation t d name (ahead mid) t' d')
-          (definition_line notation t d c.requires.tidy d' (tokens l.bytes) (ahead mid) (few way) name is t' first.next.1 (sym c.if-begins-output.ensures))
-          c.read-definition.result said.definition;
+          (definition_line notation t d c.requires.tidy d' (tokens l.bytes) (ahead mid) (few way) name is t' first.next.1 (sym c.if-begins_output.ensures))
+          c.read_definition.result said.definition;
     }
 
-pub read-definition-requires : goal.read-definition-requires
-read-definition-requires c =
-    let first = c.in-ok-name.ensures in
-    let fewer = next_fewer _ _ (Identifier c.in-ok-name.name) first.next in
-    let way = (goal.at.read-definition-requires c).Else-count-brackets-gt-MAX-BRACKETS in
+pub read_definition-requires : goal.read_definition-requires
+read_definition-requires c =
+    let first = c.in_ok-name.ensures in
+    let fewer = next_fewer _ _ (Identifier c.in_ok-name.name) first.next in
+    let way = (goal.at.read_definition-requires c).Else-count_brackets-gt-MAX_BRACKETS in
     record {
       sound = c.requires.sound;
       tidy = c.requires.tidy;

@@ -17,7 +17,7 @@ use Rattle.sheets.proofs.rule_sheet.read_lines.Goals as goal
 pub loop-cursor-preserved : goal.loop-cursor-preserved
 loop-cursor-preserved c =
     let held = c.loop-cursor.invariant in
-    let said = c.in-ok-read-line.ensures in
+    let said = c.in_ok-read_line.ensures in
     let step = said.step in
     let notation = c.args.notation in
     let facts = c.args.draft.now.facts in
@@ -38,24 +38,24 @@ loop-cursor-preserved c =
       said.stays.text ∙ c.loop-cursor-test.ensures.text ∙ held.6,
     )
 
-pub returns-in-err-read-line : goal.returns-in-err-read-line
-returns-in-err-read-line c =
-    let p = err_from_is_err_and c.from-residual.result c.from-residual.ensures.1 in
+pub returns-in_err-read_line : goal.returns-in_err-read_line
+returns-in_err-read_line c =
+    let p = err_from_is_err_and c.from_residual.result c.from_residual.ensures.1 in
     let held = c.loop-cursor.invariant in
-    let said = c.in-err-read-line.ensures in
+    let said = c.in_err-read_line.ensures in
     let step = said.step in
     let notation = c.args.notation in
     let facts = c.args.draft.now.facts in
     let room = room_in c.args.names.now c.args.draft.now in
     let before = rules_of c.loop-cursor.names c.loop-cursor.draft in
     let start = rules_of c.args.names.now c.args.draft.now in
-    let f = fault step.0 c.next-line.new.self.line in
+    let f = fault step.0 c.next_line.new.self.line in
     let L : List Line → Type 0 = λ ls. Reads (RuleStep notation facts room) before ls (Err f) in
     let W : List Line → Type 0 = λ ls. Reads (RuleStep notation facts room) start (speaking ls) (Err f) in
     let lists = lists_then _ _ _ held.4 said.lent in
     record {
-      lent-gates = lists.gates;
-      lent-outputs = lists.outputs;
+      lent_gates = lists.gates;
+      lent_outputs = lists.outputs;
       read = rw (p.1, p.2, step.1) (ReadLines.refused f (subst W c.new-cursor.ensures.lines
           (held.5 (Err f) (subst L (sym c.loop-cursor-test.ensures.lines.0) (stops step.0 (same_step notation _ facts _ room before _ (Err step.0) held.3 held.2 step.2))))));
     }
@@ -76,15 +76,15 @@ returns c =
     let R : Counts → Type 0 = λ n. ReadLines notation c.args.names.now c.args.draft.now c.args.text.now d (Ok n) in
     let counts : ◌≡◌ {A = Counts} (record { gates = length rules.gates; outputs = length rules.outputs }) c.counts.result = (λ i. record { gates = gates_long d tidy i; outputs = outputs_long d tidy i }) ∙ sym c.counts.ensures in
     record {
-      lent-gates = held.4.gates;
-      lent-outputs = held.4.outputs;
+      lent_gates = held.4.gates;
+      lent_outputs = held.4.outputs;
       read = subst R counts (ReadLines.read rules reads
           (padded_is empty_gate d.gates.now d.gate_count _ tidy.gates_fit (ap (λ q. q.gates) held.2) tidy.gates_rest)
           (padded_is empty_output d.outputs.now d.output_count _ tidy.outputs_fit (ap (λ q. q.outputs) held.2) tidy.outputs_rest));
     }
 
-pub read-line-requires : goal.read-line-requires
-read-line-requires c =
+pub read_line-requires : goal.read_line-requires
+read_line-requires c =
     let held = c.loop-cursor.invariant in
     let next = c.loop-cursor-test.ensures in
     record {

@@ -10,13 +10,13 @@ use Rattle.sheets.proofs.rule_sheet.read_rules.Goals as goal
 filled : {X : Type 0} {xs : List X} {m n : ℕ} {x e : X} → xs ≡ replicate m x → m ≡ n → x ≡ e → xs ≡ replicate n e
 filled h p q = h ∙ (λ i. replicate (p i) (q i))
 
-pub returns-then-is-err : goal.returns-then-is-err
-returns-then-is-err c =
-    let kept = c.read-lists-outcome.auto in
+pub returns-then-is_err : goal.returns-then-is_err
+returns-then-is_err c =
+    let kept = c.read_lists-outcome.auto in
     let said =
-    left_empty _ _ _ _ _ _ _ (sym c.if-is-err.ensures.value) _ _
-    (filled c.fill-then-is-err.ensures kept.gates c.empty-then-is-err.ensures)
-    (filled c.fill-then-is-err-2.ensures kept.outputs c.empty-then-is-err-2.ensures) c.read-lists-outcome.ensures
+    left_empty _ _ _ _ _ _ _ (sym c.if-is_err.ensures.value) _ _
+    (filled c.fill-then-is_err.ensures kept.gates c.empty-then-is_err.ensures)
+    (filled c.fill-then-is_err-2.ensures kept.outputs c.empty-then-is_err-2.ensures) c.read_lists-outcome.ensures
     in
     record {
       read = said;
@@ -27,12 +27,12 @@ returns-then-is-err c =
       formulas = formula_laws;
     }
 
-pub returns-else-is-err : goal.returns-else-is-err
-returns-else-is-err c =
-    let said = left_filled _ _ _ _ _ _ _ (sym c.if-is-err.ensures.value) c.read-lists-outcome.ensures in
+pub returns-else-is_err : goal.returns-else-is_err
+returns-else-is_err c =
+    let said = left_filled _ _ _ _ _ _ _ (sym c.if-is_err.ensures.value) c.read_lists-outcome.ensures in
     record {
       read = said;
-      names = filled c.fill.ensures c.read-lists-outcome.auto.names c.empty.ensures;
+      names = filled c.fill.ensures c.read_lists-outcome.auto.names c.empty.ensures;
       written = rules_back _ _ _ _ _ _ _ c.args.order.now.named said;
       meaning = read_meaning _ _ _ _ _ _ _ said;
       laws = rule_laws;

@@ -12,7 +12,7 @@ use Rattle.sheets.specs.Symbols.{symbol, signal_of, SoundTable}
 use Rattle.sheets.specs.declared.symbol.Symbol.{Symbol}
 use Rattle.sheets.proofs.Lookups.{next_fresh, next_long, next_entered, nth_below, nth_inside}
 use Rattle.sheets.proofs.symbols.enter.Goals as goal
-use Rattle.sheets.proofs.symbols.enter.Goals.{in-Some, in-default}
+use Rattle.sheets.proofs.symbols.enter.Goals.{in-Some, in_default}
 
 pub add-requires : goal.add-requires
 add-requires c =
@@ -43,7 +43,7 @@ loop-place-preserved c =
             said.keys ∙ ap (λ ss. ss ++ (symbol f.name i ∷ [])) held.1 ∙ next_entered fs i f at,
             said.capacity ∙ held.2,
           )
-      | in-default w ↦ absurd (nth_inside fs i (omega (arith, c.len-place-end.ensures)) (sym c.fact.ensures ∙ w.in-default.is))
+      | in_default w ↦ absurd (nth_inside fs i (omega (arith, c.len-place-end.ensures)) (sym c.fact.ensures ∙ w.in_default.is))
     ]
 
 pub returns : goal.returns

@@ -16,38 +16,38 @@ use Rattle.sheets.proofs.FormulaSpelling.{no_bracketed, no_close, no_factor_stuc
 use Rattle.sheets.proofs.FormulaSteps.{enough_minus, enough_or, enough_plus, enough_times, factor_brackets, factor_not, formula_first, formula_or, grown_factor, grown_part, grown_term, joined, next_fewer, part_first, part_minus, part_plus, term_first, term_more}
 use Rattle.sheets.proofs.cursor.Cursor.+factor_formula_part_term.Goals as goal
 
-pub factor-returns-in-err-next-token : goal.factor-returns-in-err-next-token
-factor-returns-in-err-next-token t c =
-    let said = c.in-err-next-token.ensures in
-    let p = err_from_is_err_and c.from-residual.result c.from-residual.ensures.1 in
+pub factor-returns-in_err-next_token : goal.factor-returns-in_err-next_token
+factor-returns-in_err-next_token t c =
+    let said = c.in_err-next_token.ensures in
+    let p = err_from_is_err_and c.from_residual.result c.from_residual.ensures.1 in
     record { stays = said.stays; lent = record { gates = refl; outputs = refl }; read = rw (p.1, p.2) (said.next.0, no_factor_stuck (ahead c.args.self.now) said.next.1) }
 
-pub factor-returns-in-err-operand : goal.factor-returns-in-err-operand
-factor-returns-in-err-operand t c =
-    let first = c.in-ok-next-token.ensures in
-    let said = c.in-err-operand.ensures in
-    let p = err_from_is_err_and c.from-residual-in-err-operand.result c.from-residual-in-err-operand.ensures.1 in
-    let is : ahead c.args.self.now ≡ (33 ∷ []) ∷ ahead c.next-token.new.self = subst (λ u. Next (ahead c.args.self.now) u (ahead c.next-token.new.self)) c.in-Not.is first.next in
+pub factor-returns-in_err-operand : goal.factor-returns-in_err-operand
+factor-returns-in_err-operand t c =
+    let first = c.in_ok-next_token.ensures in
+    let said = c.in_err-operand.ensures in
+    let p = err_from_is_err_and c.from_residual-in_err-operand.result c.from_residual-in_err-operand.ensures.1 in
+    let is : ahead c.args.self.now ≡ (33 ∷ []) ∷ ahead c.next_token.new.self = subst (λ u. Next (ahead c.args.self.now) u (ahead c.next_token.new.self)) c.in-Not.is first.next in
     record {
       stays = same_then _ _ _ first.stays said.stays;
       lent = said.lent;
-      read = rw (p.1, p.2) (said.read.0 ∙ ap (fault NoForm) first.stays.line, subst NoFactor (sym is) (no_negated (ahead c.next-token.new.self) said.read.1));
+      read = rw (p.1, p.2) (said.read.0 ∙ ap (fault NoForm) first.stays.line, subst NoFactor (sym is) (no_negated (ahead c.next_token.new.self) said.read.1));
     }
 
 pub factor-emit-requires : goal.factor-emit-requires
 factor-emit-requires t c =
-    let first = c.in-ok-next-token.ensures in
-    let said = c.in-ok-operand.ensures in
+    let first = c.in_ok-next_token.ensures in
+    let said = c.in_ok-operand.ensures in
     let fewer = next_fewer _ _ _ first.next in
     let more = grown_factor _ _ _ _ _ _ said.read in
     omega (arith, c.requires.signals, fewer.short, more.gates)
 
-pub factor-returns-in-err-signal : goal.factor-returns-in-err-signal
-factor-returns-in-err-signal t c =
-    let first = c.in-ok-next-token.ensures in
-    let said = c.in-err-signal.ensures in
-    let p = err_from_is_err_and c.from-residual-in-err-signal.result c.from-residual-in-err-signal.ensures.1 in
-    let inner = ahead c.next-token.new.self in
+pub factor-returns-in_err-signal : goal.factor-returns-in_err-signal
+factor-returns-in_err-signal t c =
+    let first = c.in_ok-next_token.ensures in
+    let said = c.in_err-signal.ensures in
+    let p = err_from_is_err_and c.from_residual-in_err-signal.result c.from_residual-in_err-signal.ensures.1 in
+    let inner = ahead c.next_token.new.self in
     let is : ahead c.args.self.now ≡ (40 ∷ []) ∷ inner = subst (λ u. Next (ahead c.args.self.now) u inner) c.in-Open.is first.next in
     record {
       stays = same_then _ _ _ first.stays said.stays;
@@ -55,41 +55,41 @@ factor-returns-in-err-signal t c =
       read = rw (p.1, p.2) (said.read.0 ∙ ap (fault NoForm) first.stays.line, subst NoFactor (sym is) (no_bracketed inner (no_inside inner said.read.1)));
     }
 
-pub factor-returns-in-ok-operand : goal.factor-returns-in-ok-operand
-factor-returns-in-ok-operand t c =
-    let first = c.in-ok-next-token.ensures in
-    let said = c.in-ok-operand.ensures in
+pub factor-returns-in_ok-operand : goal.factor-returns-in_ok-operand
+factor-returns-in_ok-operand t c =
+    let first = c.in_ok-next_token.ensures in
+    let said = c.in_ok-operand.ensures in
     let put = c.emit.ensures in
-    let is = subst (λ u. Next (ahead c.args.self.now) u (ahead c.next-token.new.self)) c.in-Not.is first.next in
+    let is = subst (λ u. Next (ahead c.args.self.now) u (ahead c.next_token.new.self)) c.in-Not.is first.next in
     record {
       stays = same_then _ _ _ first.stays said.stays;
       lent = lists_then _ _ _ said.lent put.lent;
-      read = factor_not (keys_of c.args.names.now) c.args.draft.now (ahead c.args.self.now) c.in-ok-operand.operand c.emit.result (ahead c.next-token.new.self) (ahead c.factor.new.self) c.factor.new.draft c.emit.new.self
+      read = factor_not (keys_of c.args.names.now) c.args.draft.now (ahead c.args.self.now) c.in_ok-operand.operand c.emit.result (ahead c.next_token.new.self) (ahead c.factor.new.self) c.factor.new.draft c.emit.new.self
           is said.read (put_as _ _ _ _ _ c.unary.ensures put.signal put.gates put.count put.unknown put.others);
     }
 
 pub factor-returns-in-Close : goal.factor-returns-in-Close
 factor-returns-in-Close t c =
-    let first = c.in-ok-next-token.ensures in
-    let said = c.in-ok-signal.ensures in
+    let first = c.in_ok-next_token.ensures in
+    let said = c.in_ok-signal.ensures in
     let ss = keys_of c.args.names.now in
     let d = c.args.draft.now in
-    let inner = ahead c.next-token.new.self in
+    let inner = ahead c.next_token.new.self in
     let rest = ahead c.formula.new.self in
     let is = subst (λ u. Next (ahead c.args.self.now) u inner) c.in-Open.is first.next in
-    let closed = subst (λ u. ReadFormula ss d inner c.in-ok-signal.signal u rest c.formula.new.draft) c.in-Close.is said.read.0 in
+    let closed = subst (λ u. ReadFormula ss d inner c.in_ok-signal.signal u rest c.formula.new.draft) c.in-Close.is said.read.0 in
     record {
       stays = same_then _ _ _ first.stays said.stays;
       lent = said.lent;
-      read = factor_brackets ss d (ahead c.args.self.now) c.in-ok-signal.signal inner rest c.formula.new.draft is closed;
+      read = factor_brackets ss d (ahead c.args.self.now) c.in_ok-signal.signal inner rest c.formula.new.draft is closed;
     }
 
-pub factor-returns-in-default-token : goal.factor-returns-in-default-token
-factor-returns-in-default-token t c =
-    let first = c.in-ok-next-token.ensures in
-    let said = c.in-ok-signal.ensures in
+pub factor-returns-in_default-token : goal.factor-returns-in_default-token
+factor-returns-in_default-token t c =
+    let first = c.in_ok-next_token.ensures in
+    let said = c.in_ok-signal.ensures in
     let read = said.read.0 in
-    let inner = ahead c.next-token.new.self in
+    let inner = ahead c.next_token.new.self in
     let is : ahead c.args.self.now ≡ (40 ∷ []) ∷ inner = subst (λ u. Next (ahead c.args.self.now) u inner) c.in-Open.is first.next in
     let both = same_then _ _ _ first.stays said.stays in
     record {
@@ -97,15 +97,15 @@ factor-returns-in-default-token t c =
       lent = said.lent;
       read = (
         c.refuse.ensures ∙ ap (fault NoForm) both.line,
-        subst NoFactor (sym is) (no_bracketed inner (no_close inner read.formula read.after (ahead c.formula.new.self) c.in-ok-signal.token read.next said.read.1 c.in-default-token.not-Close read.tokens)),
+        subst NoFactor (sym is) (no_bracketed inner (no_close inner read.formula read.after (ahead c.formula.new.self) c.in_ok-signal.token read.next said.read.1 c.in_default-token.not-Close read.tokens)),
       );
     }
 
 pub factor-returns-in-Identifier : goal.factor-returns-in-Identifier
 factor-returns-in-Identifier t c =
-    let first = c.in-ok-next-token.ensures in
+    let first = c.in_ok-next_token.ensures in
     let n = c.in-Identifier.name in
-    let next = subst (λ u. Next (ahead c.args.self.now) u (ahead c.next-token.new.self)) c.in-Identifier.is first.next in
+    let next = subst (λ u. Next (ahead c.args.self.now) u (ahead c.next_token.new.self)) c.in-Identifier.is first.next in
     let w : Word = record { name = n; some = next.1 } in
     let looked = c.signal_of.ensures in
     record {
@@ -116,9 +116,9 @@ factor-returns-in-Identifier t c =
 
 pub factor-returns-in-Number : goal.factor-returns-in-Number
 factor-returns-in-Number t c =
-    let first = c.in-ok-next-token.ensures in
+    let first = c.in_ok-next_token.ensures in
     let v = c.in-Number.value in
-    let next = subst (λ u. Next (ahead c.args.self.now) u (ahead c.next-token.new.self)) c.in-Number.is first.next in
+    let next = subst (λ u. Next (ahead c.args.self.now) u (ahead c.next_token.new.self)) c.in-Number.is first.next in
     let n : Numeral = record { value = v; small = next.1 } in
     let put = c.emit-in-Number.ensures in
     record {
@@ -131,28 +131,28 @@ factor-returns-in-Number t c =
       };
     }
 
-pub factor-returns-in-default : goal.factor-returns-in-default
-factor-returns-in-default t c =
-    let first = c.in-ok-next-token.ensures in
-    let other = c.in-default in
+pub factor-returns-in_default : goal.factor-returns-in_default
+factor-returns-in_default t c =
+    let first = c.in_ok-next_token.ensures in
+    let other = c.in_default in
     record {
       stays = first.stays;
       lent = record { gates = refl; outputs = refl };
       read = (
-        c.refuse-in-default.ensures ∙ ap (fault NoForm) first.stays.line,
-        no_start (ahead c.args.self.now) (ahead c.next-token.new.self) c.in-ok-next-token.field-0 first.next other.not-Not other.not-Open other.not-Identifier other.not-Number,
+        c.refuse-in_default.ensures ∙ ap (fault NoForm) first.stays.line,
+        no_start (ahead c.args.self.now) (ahead c.next_token.new.self) c.in_ok-next_token.field-0 first.next other.not-Not other.not-Open other.not-Identifier other.not-Number,
       );
     }
 
-pub formula-returns-in-err-signal : goal.formula-returns-in-err-signal
-formula-returns-in-err-signal t c =
-    let said = c.in-err-signal.ensures in
-    let p = err_from_is_err_and c.from-residual.result c.from-residual.ensures.1 in
+pub formula-returns-in_err-signal : goal.formula-returns-in_err-signal
+formula-returns-in_err-signal t c =
+    let said = c.in_err-signal.ensures in
+    let p = err_from_is_err_and c.from_residual.result c.from_residual.ensures.1 in
     record { stays = said.stays; lent = said.lent; read = rw (p.1, p.2) (said.read.0, no_first_part (ahead c.args.self.now) said.read.1) }
 
 pub formula-part-requires-in-Or : goal.formula-part-requires-in-Or
 formula-part-requires-in-Or t c =
-    let first = c.in-ok-signal.ensures in
+    let first = c.in_ok-signal.ensures in
     let ss = keys_of c.args.names.now in
     let d = c.args.draft.now in
     let ts = ahead c.args.self.now in
@@ -162,10 +162,10 @@ formula-part-requires-in-Or t c =
     let enough = enough_or ss c.args.left d ts c.requires.few c.requires.signals here.signal rest here.draft so_far in
     (search rules, (c.requires.sound, (enough.few, omega (arith, enough.signals))))
 
-pub formula-returns-in-err-right : goal.formula-returns-in-err-right
-formula-returns-in-err-right t c =
-    let said = c.in-err-right.ensures in
-    let first = c.in-ok-signal.ensures in
+pub formula-returns-in_err-right : goal.formula-returns-in_err-right
+formula-returns-in_err-right t c =
+    let said = c.in_err-right.ensures in
+    let first = c.in_ok-signal.ensures in
     let ss = keys_of c.args.names.now in
     let d = c.args.draft.now in
     let ts = ahead c.args.self.now in
@@ -174,7 +174,7 @@ formula-returns-in-err-right t c =
     let so_far = subst (λ u. ReadFormula ss d ts here.signal u rest here.draft) c.in-Or.is (here.invariant.2 d ts (formula_first ss d ts _ _ _ _ first.read.0)) in
     let is = so_far.tokens ∙ ap (λ us. spell so_far.formula ++ us) so_far.next in
     let stays = same_then _ _ _ first.stays here.invariant.0 in
-    let p = err_from_is_err_and c.from-residual-in-err-right.result c.from-residual-in-err-right.ensures.1 in
+    let p = err_from_is_err_and c.from_residual-in_err-right.result c.from_residual-in_err-right.ensures.1 in
     record {
       stays = same_then _ _ _ stays said.stays;
       lent = lists_then _ _ _ (lists_then _ _ _ first.lent here.invariant.1) said.lent;
@@ -183,8 +183,8 @@ formula-returns-in-err-right t c =
 
 pub formula-emit-signal-requires : goal.formula-emit-signal-requires
 formula-emit-signal-requires t c =
-    let said = c.in-ok-right.ensures in
-    let first = c.in-ok-signal.ensures in
+    let said = c.in_ok-right.ensures in
+    let first = c.in_ok-signal.ensures in
     let ss = keys_of c.args.names.now in
     let d = c.args.draft.now in
     let ts = ahead c.args.self.now in
@@ -197,14 +197,14 @@ formula-emit-signal-requires t c =
 
 pub formula-loop-token-smaller : goal.formula-loop-token-smaller
 formula-loop-token-smaller t c =
-    let right = c.in-ok-right.ensures in
+    let right = c.in_ok-right.ensures in
     let more = grown_part _ _ _ _ _ _ _ right.read.0 in
     let lt : length (ahead c.part-in-Or.new.self) < length (ahead c.loop-token.self) = more.shorter in
     lt
 
 pub formula-loop-token-preserved : goal.formula-loop-token-preserved
 formula-loop-token-preserved t c =
-    let right = c.in-ok-right.ensures in
+    let right = c.in_ok-right.ensures in
     let put = c.emit-signal.ensures in
     let ss = keys_of c.args.names.now in
     let here = c.loop-token in (
@@ -212,14 +212,14 @@ formula-loop-token-preserved t c =
       lists_then _ _ _ (lists_then _ _ _ here.invariant.1 right.lent) put.lent,
       λ d ts begun.
           let so_far = subst (λ u. ReadFormula ss d ts here.signal u (ahead here.self) here.draft) c.in-Or.is (here.invariant.2 d ts begun) in
-          formula_or ss d ts here.signal c.in-ok-right.right c.emit-signal.result (ahead here.self) (ahead c.part-in-Or.new.self) c.in-ok-right.next here.draft c.part-in-Or.new.draft c.emit-signal.new.self
+          formula_or ss d ts here.signal c.in_ok-right.right c.emit-signal.result (ahead here.self) (ahead c.part-in-Or.new.self) c.in_ok-right.next here.draft c.part-in-Or.new.draft c.emit-signal.new.self
           so_far right.read.0 (put_as _ _ _ _ _ c.binary.ensures put.signal put.gates put.count put.unknown put.others),
       right.read.1,
     )
 
 pub formula-returns : goal.formula-returns
 formula-returns t c =
-    let first = c.in-ok-signal.ensures in
+    let first = c.in_ok-signal.ensures in
     let ss = keys_of c.args.names.now in
     let d = c.args.draft.now in
     let ts = ahead c.args.self.now in
@@ -227,18 +227,18 @@ formula-returns t c =
     record {
       stays = same_then _ _ _ first.stays here.invariant.0;
       lent = lists_then _ _ _ first.lent here.invariant.1;
-      read = (here.invariant.2 d ts (formula_first ss d ts _ _ _ _ first.read.0), (here.invariant.3, c.in-default.not-Or));
+      read = (here.invariant.2 d ts (formula_first ss d ts _ _ _ _ first.read.0), (here.invariant.3, c.in_default.not-Or));
     }
 
-pub part-returns-in-err-signal : goal.part-returns-in-err-signal
-part-returns-in-err-signal t c =
-    let said = c.in-err-signal.ensures in
-    let p = err_from_is_err_and c.from-residual.result c.from-residual.ensures.1 in
+pub part-returns-in_err-signal : goal.part-returns-in_err-signal
+part-returns-in_err-signal t c =
+    let said = c.in_err-signal.ensures in
+    let p = err_from_is_err_and c.from_residual.result c.from_residual.ensures.1 in
     record { stays = said.stays; lent = said.lent; read = rw (p.1, p.2) (said.read.0, no_first_term (ahead c.args.self.now) said.read.1) }
 
 pub part-term-requires-in-Plus : goal.part-term-requires-in-Plus
 part-term-requires-in-Plus t c =
-    let first = c.in-ok-signal.ensures in
+    let first = c.in_ok-signal.ensures in
     let ss = keys_of c.args.names.now in
     let d = c.args.draft.now in
     let ts = ahead c.args.self.now in
@@ -248,10 +248,10 @@ part-term-requires-in-Plus t c =
     let enough = enough_plus ss c.args.left d ts c.requires.few c.requires.signals here.signal rest here.draft so_far in
     (search rules, (c.requires.sound, (enough.few, omega (arith, enough.signals))))
 
-pub part-returns-in-err-right : goal.part-returns-in-err-right
-part-returns-in-err-right t c =
-    let said = c.in-err-right.ensures in
-    let first = c.in-ok-signal.ensures in
+pub part-returns-in_err-right : goal.part-returns-in_err-right
+part-returns-in_err-right t c =
+    let said = c.in_err-right.ensures in
+    let first = c.in_ok-signal.ensures in
     let ss = keys_of c.args.names.now in
     let d = c.args.draft.now in
     let ts = ahead c.args.self.now in
@@ -260,7 +260,7 @@ part-returns-in-err-right t c =
     let so_far = subst (λ u. ReadPart ss d ts here.signal u rest here.draft) c.in-Plus.is (here.invariant.2 d ts (part_first ss d ts _ _ _ _ first.read.0)) in
     let is = so_far.tokens ∙ ap (λ us. spell_part so_far.part ++ us) so_far.next in
     let stays = same_then _ _ _ first.stays here.invariant.0 in
-    let p = err_from_is_err_and c.from-residual-in-err-right.result c.from-residual-in-err-right.ensures.1 in
+    let p = err_from_is_err_and c.from_residual-in_err-right.result c.from_residual-in_err-right.ensures.1 in
     record {
       stays = same_then _ _ _ stays said.stays;
       lent = lists_then _ _ _ (lists_then _ _ _ first.lent here.invariant.1) said.lent;
@@ -269,8 +269,8 @@ part-returns-in-err-right t c =
 
 pub part-emit-signal-requires : goal.part-emit-signal-requires
 part-emit-signal-requires t c =
-    let said = c.in-ok-right.ensures in
-    let first = c.in-ok-signal.ensures in
+    let said = c.in_ok-right.ensures in
+    let first = c.in_ok-signal.ensures in
     let ss = keys_of c.args.names.now in
     let d = c.args.draft.now in
     let ts = ahead c.args.self.now in
@@ -283,14 +283,14 @@ part-emit-signal-requires t c =
 
 pub part-loop-token-smaller-in-Plus : goal.part-loop-token-smaller-in-Plus
 part-loop-token-smaller-in-Plus t c =
-    let right = c.in-ok-right.ensures in
+    let right = c.in_ok-right.ensures in
     let more = grown_term _ _ _ _ _ _ _ right.read.0 in
     let lt : length (ahead c.term-in-Plus.new.self) < length (ahead c.loop-token.self) = more.shorter in
     lt
 
 pub part-loop-token-preserved-in-Plus : goal.part-loop-token-preserved-in-Plus
 part-loop-token-preserved-in-Plus t c =
-    let right = c.in-ok-right.ensures in
+    let right = c.in_ok-right.ensures in
     let put = c.emit-signal.ensures in
     let ss = keys_of c.args.names.now in
     let here = c.loop-token in (
@@ -298,14 +298,14 @@ part-loop-token-preserved-in-Plus t c =
       lists_then _ _ _ (lists_then _ _ _ here.invariant.1 right.lent) put.lent,
       λ d ts begun.
           let so_far = subst (λ u. ReadPart ss d ts here.signal u (ahead here.self) here.draft) c.in-Plus.is (here.invariant.2 d ts begun) in
-          part_plus ss d ts here.signal c.in-ok-right.right c.emit-signal.result (ahead here.self) (ahead c.term-in-Plus.new.self) c.in-ok-right.next here.draft c.term-in-Plus.new.draft c.emit-signal.new.self
+          part_plus ss d ts here.signal c.in_ok-right.right c.emit-signal.result (ahead here.self) (ahead c.term-in-Plus.new.self) c.in_ok-right.next here.draft c.term-in-Plus.new.draft c.emit-signal.new.self
           so_far right.read.0 (put_as _ _ _ _ _ c.binary.ensures put.signal put.gates put.count put.unknown put.others),
       right.read.1,
     )
 
 pub part-term-requires-in-Minus : goal.part-term-requires-in-Minus
 part-term-requires-in-Minus t c =
-    let first = c.in-ok-signal.ensures in
+    let first = c.in_ok-signal.ensures in
     let ss = keys_of c.args.names.now in
     let d = c.args.draft.now in
     let ts = ahead c.args.self.now in
@@ -315,10 +315,10 @@ part-term-requires-in-Minus t c =
     let enough = enough_minus ss c.args.left d ts c.requires.few c.requires.signals here.signal rest here.draft so_far in
     (search rules, (c.requires.sound, (enough.few, omega (arith, enough.signals))))
 
-pub part-returns-in-err-right-2 : goal.part-returns-in-err-right-2
-part-returns-in-err-right-2 t c =
-    let said = c.in-err-right-2.ensures in
-    let first = c.in-ok-signal.ensures in
+pub part-returns-in_err-right-2 : goal.part-returns-in_err-right-2
+part-returns-in_err-right-2 t c =
+    let said = c.in_err-right-2.ensures in
+    let first = c.in_ok-signal.ensures in
     let ss = keys_of c.args.names.now in
     let d = c.args.draft.now in
     let ts = ahead c.args.self.now in
@@ -327,7 +327,7 @@ part-returns-in-err-right-2 t c =
     let so_far = subst (λ u. ReadPart ss d ts here.signal u rest here.draft) c.in-Minus.is (here.invariant.2 d ts (part_first ss d ts _ _ _ _ first.read.0)) in
     let is = so_far.tokens ∙ ap (λ us. spell_part so_far.part ++ us) so_far.next in
     let stays = same_then _ _ _ first.stays here.invariant.0 in
-    let p = err_from_is_err_and c.from-residual-in-err-right-2.result c.from-residual-in-err-right-2.ensures.1 in
+    let p = err_from_is_err_and c.from_residual-in_err-right-2.result c.from_residual-in_err-right-2.ensures.1 in
     record {
       stays = same_then _ _ _ stays said.stays;
       lent = lists_then _ _ _ (lists_then _ _ _ first.lent here.invariant.1) said.lent;
@@ -336,8 +336,8 @@ part-returns-in-err-right-2 t c =
 
 pub part-emit-minus-requires : goal.part-emit-minus-requires
 part-emit-minus-requires t c =
-    let said = c.in-ok-right-2.ensures in
-    let first = c.in-ok-signal.ensures in
+    let said = c.in_ok-right-2.ensures in
+    let first = c.in_ok-signal.ensures in
     let ss = keys_of c.args.names.now in
     let d = c.args.draft.now in
     let ts = ahead c.args.self.now in
@@ -350,8 +350,8 @@ part-emit-minus-requires t c =
 
 pub part-emit-signal-requires-in-Minus : goal.part-emit-signal-requires-in-Minus
 part-emit-signal-requires-in-Minus t c =
-    let said = c.in-ok-right-2.ensures in
-    let first = c.in-ok-signal.ensures in
+    let said = c.in_ok-right-2.ensures in
+    let first = c.in_ok-signal.ensures in
     let ss = keys_of c.args.names.now in
     let d = c.args.draft.now in
     let ts = ahead c.args.self.now in
@@ -364,14 +364,14 @@ part-emit-signal-requires-in-Minus t c =
 
 pub part-loop-token-smaller : goal.part-loop-token-smaller
 part-loop-token-smaller t c =
-    let right = c.in-ok-right-2.ensures in
+    let right = c.in_ok-right-2.ensures in
     let more = grown_term _ _ _ _ _ _ _ right.read.0 in
     let lt : length (ahead c.term-in-Minus.new.self) < length (ahead c.loop-token.self) = more.shorter in
     lt
 
 pub part-loop-token-preserved : goal.part-loop-token-preserved
 part-loop-token-preserved t c =
-    let right = c.in-ok-right-2.ensures in
+    let right = c.in_ok-right-2.ensures in
     let turned = c.emit-minus.ensures in
     let put = c.emit-signal-in-Minus.ensures in
     let ss = keys_of c.args.names.now in
@@ -380,14 +380,14 @@ part-loop-token-preserved t c =
       lists_then _ _ _ (lists_then _ _ _ (lists_then _ _ _ here.invariant.1 right.lent) turned.lent) put.lent,
       λ d ts begun.
           let so_far = subst (λ u. ReadPart ss d ts here.signal u (ahead here.self) here.draft) c.in-Minus.is (here.invariant.2 d ts begun) in
-          part_minus ss d ts here.signal c.in-ok-right-2.right c.emit-signal-in-Minus.result (ahead here.self) (ahead c.term-in-Minus.new.self) c.in-ok-right-2.next here.draft c.term-in-Minus.new.draft c.emit-minus.new.self c.emit-minus.result c.emit-signal-in-Minus.new.self
+          part_minus ss d ts here.signal c.in_ok-right-2.right c.emit-signal-in-Minus.result (ahead here.self) (ahead c.term-in-Minus.new.self) c.in_ok-right-2.next here.draft c.term-in-Minus.new.draft c.emit-minus.new.self c.emit-minus.result c.emit-signal-in-Minus.new.self
           so_far right.read.0 (put_as _ _ _ _ _ c.unary.ensures turned.signal turned.gates turned.count turned.unknown turned.others) (put_as _ _ _ _ _ c.binary-in-Minus.ensures put.signal put.gates put.count put.unknown put.others),
       right.read.1,
     )
 
-pub part-returns-in-default : goal.part-returns-in-default
-part-returns-in-default t c =
-    let first = c.in-ok-signal.ensures in
+pub part-returns-in_default : goal.part-returns-in_default
+part-returns-in_default t c =
+    let first = c.in_ok-signal.ensures in
     let ss = keys_of c.args.names.now in
     let d = c.args.draft.now in
     let ts = ahead c.args.self.now in
@@ -395,21 +395,21 @@ part-returns-in-default t c =
     record {
       stays = same_then _ _ _ first.stays here.invariant.0;
       lent = lists_then _ _ _ first.lent here.invariant.1;
-      read = (here.invariant.2 d ts (part_first ss d ts _ _ _ _ first.read.0), (here.invariant.3, c.in-default.not-Plus, c.in-default.not-Minus));
+      read = (here.invariant.2 d ts (part_first ss d ts _ _ _ _ first.read.0), (here.invariant.3, c.in_default.not-Plus, c.in_default.not-Minus));
     }
 
-pub term-returns-in-err-signal : goal.term-returns-in-err-signal
-term-returns-in-err-signal t c =
-    let said = c.in-err-signal.ensures in
-    let p = err_from_is_err_and c.from-residual.result c.from-residual.ensures.1 in
+pub term-returns-in_err-signal : goal.term-returns-in_err-signal
+term-returns-in_err-signal t c =
+    let said = c.in_err-signal.ensures in
+    let p = err_from_is_err_and c.from_residual.result c.from_residual.ensures.1 in
     record { stays = said.stays; lent = said.lent; read = rw (p.1, p.2) (said.read.0, no_first_factor (ahead c.args.self.now) said.read.1) }
 
-pub term-returns-in-err-token : goal.term-returns-in-err-token
-term-returns-in-err-token t c =
-    let first = c.in-ok-signal.ensures in
+pub term-returns-in_err-token : goal.term-returns-in_err-token
+term-returns-in_err-token t c =
+    let first = c.in_ok-signal.ensures in
     let read = first.read in
-    let said = c.in-err-token.ensures in
-    let p = err_from_is_err_and c.from-residual-in-err-token.result c.from-residual-in-err-token.ensures.1 in
+    let said = c.in_err-token.ensures in
+    let p = err_from_is_err_and c.from_residual-in_err-token.result c.from_residual-in_err-token.ensures.1 in
     record {
       stays = same_then _ _ _ first.stays said.stays;
       lent = first.lent;
@@ -418,8 +418,8 @@ term-returns-in-err-token t c =
 
 pub term-factor-requires-in-Times : goal.term-factor-requires-in-Times
 term-factor-requires-in-Times t c =
-    let first = c.in-ok-signal.ensures in
-    let next = c.in-ok-token.ensures in
+    let first = c.in_ok-signal.ensures in
+    let next = c.in_ok-token.ensures in
     let ss = keys_of c.args.names.now in
     let d = c.args.draft.now in
     let ts = ahead c.args.self.now in
@@ -428,11 +428,11 @@ term-factor-requires-in-Times t c =
     let enough = enough_times ss c.args.left d ts c.requires.few c.requires.signals here.signal (ahead here.self) here.draft (subst (λ u. ReadTerm ss d ts here.signal u (ahead here.self) here.draft) c.in-Times.is so_far) in
     (search rules, (c.requires.sound, (enough.few, omega (arith, enough.signals))))
 
-pub term-returns-in-err-right : goal.term-returns-in-err-right
-term-returns-in-err-right t c =
-    let first = c.in-ok-signal.ensures in
-    let next = c.in-ok-token.ensures in
-    let said = c.in-err-right.ensures in
+pub term-returns-in_err-right : goal.term-returns-in_err-right
+term-returns-in_err-right t c =
+    let first = c.in_ok-signal.ensures in
+    let next = c.in_ok-token.ensures in
+    let said = c.in_err-right.ensures in
     let ss = keys_of c.args.names.now in
     let d = c.args.draft.now in
     let ts = ahead c.args.self.now in
@@ -441,7 +441,7 @@ term-returns-in-err-right t c =
     let so_far = here.invariant.2 d ts (term_first ss d ts _ _ _ _ _ first.read next.next) in
     let is = so_far.tokens ∙ ap (λ us. spell_term so_far.term ++ us) (subst (λ u. Next so_far.after u rest) c.in-Times.is so_far.next) in
     let stays = same_then _ _ _ (same_then _ _ _ first.stays next.stays) here.invariant.0 in
-    let p = err_from_is_err_and c.from-residual-in-err-right.result c.from-residual-in-err-right.ensures.1 in
+    let p = err_from_is_err_and c.from_residual-in_err-right.result c.from_residual-in_err-right.ensures.1 in
     record {
       stays = same_then _ _ _ stays said.stays;
       lent = lists_then _ _ _ (lists_then _ _ _ first.lent here.invariant.1) said.lent;
@@ -450,9 +450,9 @@ term-returns-in-err-right t c =
 
 pub term-emit-signal-requires : goal.term-emit-signal-requires
 term-emit-signal-requires t c =
-    let first = c.in-ok-signal.ensures in
-    let next = c.in-ok-token.ensures in
-    let said = c.in-ok-right.ensures in
+    let first = c.in_ok-signal.ensures in
+    let next = c.in_ok-token.ensures in
+    let said = c.in_ok-right.ensures in
     let ss = keys_of c.args.names.now in
     let d = c.args.draft.now in
     let ts = ahead c.args.self.now in
@@ -462,13 +462,13 @@ term-emit-signal-requires t c =
     let more = grown_factor _ _ _ _ _ _ said.read in
     omega (arith, enough.signals, more.gates)
 
-pub term-returns-in-err-token-2 : goal.term-returns-in-err-token-2
-term-returns-in-err-token-2 t c =
-    let first = c.in-ok-signal.ensures in
-    let next = c.in-ok-token.ensures in
-    let right = c.in-ok-right.ensures in
+pub term-returns-in_err-token-2 : goal.term-returns-in_err-token-2
+term-returns-in_err-token-2 t c =
+    let first = c.in_ok-signal.ensures in
+    let next = c.in_ok-token.ensures in
+    let right = c.in_ok-right.ensures in
     let more = right.read in
-    let said = c.in-err-token-2.ensures in
+    let said = c.in_err-token-2.ensures in
     let ss = keys_of c.args.names.now in
     let d = c.args.draft.now in
     let ts = ahead c.args.self.now in
@@ -478,7 +478,7 @@ term-returns-in-err-token-2 t c =
     let after = ahead c.factor-in-Times.new.self in
     let is = joined ts (spell_term so_far.term) (spell_factor more.factor) so_far.after (ahead here.self) 42 so_far.tokens sign after more.tokens in
     let stays = same_then _ _ _ (same_then _ _ _ (same_then _ _ _ first.stays next.stays) here.invariant.0) right.stays in
-    let p = err_from_is_err_and c.from-residual-in-err-token-2.result c.from-residual-in-err-token-2.ensures.1 in
+    let p = err_from_is_err_and c.from_residual-in_err-token-2.result c.from_residual-in_err-token-2.ensures.1 in
     record {
       stays = same_then _ _ _ stays said.stays;
       lent = lists_then _ _ _ (lists_then _ _ _ (lists_then _ _ _ first.lent here.invariant.1) right.lent) c.emit-signal.ensures.lent;
@@ -487,17 +487,17 @@ term-returns-in-err-token-2 t c =
 
 pub term-loop-token-smaller : goal.term-loop-token-smaller
 term-loop-token-smaller t c =
-    let right = c.in-ok-right.ensures in
-    let next = c.in-ok-token-2.ensures in
+    let right = c.in_ok-right.ensures in
+    let next = c.in_ok-token-2.ensures in
     let more = grown_factor _ _ _ _ _ _ right.read in
     let fewer = next_fewer _ _ _ next.next in
-    let lt : length (ahead c.next-token-in-Times.new.self) < length (ahead c.loop-token.self) = omega (arith, more.shorter, fewer.short) in
+    let lt : length (ahead c.next_token-in-Times.new.self) < length (ahead c.loop-token.self) = omega (arith, more.shorter, fewer.short) in
     lt
 
 pub term-loop-token-preserved : goal.term-loop-token-preserved
 term-loop-token-preserved t c =
-    let right = c.in-ok-right.ensures in
-    let next = c.in-ok-token-2.ensures in
+    let right = c.in_ok-right.ensures in
+    let next = c.in_ok-token-2.ensures in
     let put = c.emit-signal.ensures in
     let ss = keys_of c.args.names.now in
     let here = c.loop-token in (
@@ -505,14 +505,14 @@ term-loop-token-preserved t c =
       lists_then _ _ _ (lists_then _ _ _ here.invariant.1 right.lent) put.lent,
       λ d ts begun.
           let so_far = subst (λ u. ReadTerm ss d ts here.signal u (ahead here.self) here.draft) c.in-Times.is (here.invariant.2 d ts begun) in
-          term_more ss d ts here.signal c.in-ok-right.right c.emit-signal.result (ahead here.self) (ahead c.factor-in-Times.new.self) c.in-ok-token-2.token here.draft c.factor-in-Times.new.draft c.emit-signal.new.self (ahead c.next-token-in-Times.new.self)
+          term_more ss d ts here.signal c.in_ok-right.right c.emit-signal.result (ahead here.self) (ahead c.factor-in-Times.new.self) c.in_ok-token-2.token here.draft c.factor-in-Times.new.draft c.emit-signal.new.self (ahead c.next_token-in-Times.new.self)
           so_far right.read (put_as _ _ _ _ _ c.binary.ensures put.signal put.gates put.count put.unknown put.others) next.next,
     )
 
 pub term-returns : goal.term-returns
 term-returns t c =
-    let first = c.in-ok-signal.ensures in
-    let next = c.in-ok-token.ensures in
+    let first = c.in_ok-signal.ensures in
+    let next = c.in_ok-token.ensures in
     let ss = keys_of c.args.names.now in
     let d = c.args.draft.now in
     let ts = ahead c.args.self.now in
@@ -520,5 +520,5 @@ term-returns t c =
     record {
       stays = same_then _ _ _ (same_then _ _ _ first.stays next.stays) here.invariant.0;
       lent = lists_then _ _ _ first.lent here.invariant.1;
-      read = (here.invariant.2 d ts (term_first ss d ts _ _ _ _ _ first.read next.next), c.in-default.not-Times);
+      read = (here.invariant.2 d ts (term_first ss d ts _ _ _ _ _ first.read next.next), c.in_default.not-Times);
     }

@@ -13,17 +13,17 @@ use Rattle.sheets.proofs.GateSides.{noted_two}
 use Rattle.sheets.proofs.NextToken.{same_rest}
 use Rattle.sheets.proofs.cursor.Cursor.binary.Goals as goal
 
-pub returns-in-err-first : goal.returns-in-err-first
-returns-in-err-first c =
-    let said = c.in-err-first.ensures in
-    let p = err_from_is_err_and c.from-residual.result c.from-residual.ensures.1 in
+pub returns-in_err-first : goal.returns-in_err-first
+returns-in_err-first c =
+    let said = c.in_err-first.ensures in
+    let p = err_from_is_err_and c.from_residual.result c.from_residual.ensures.1 in
     record { stays = said.stays; lent = record { gates = refl; outputs = refl }; gate = rw (p.1, p.2) (said.next.0, λ a b e. said.next.1 a.name _ (e, a.some)) }
 
-pub returns-in-err-second : goal.returns-in-err-second
-returns-in-err-second c =
-    let first = c.in-ok-first.ensures in
-    let said = c.in-err-second.ensures in
-    let p = err_from_is_err_and c.from-residual-in-err-second.result c.from-residual-in-err-second.ensures.1 in
+pub returns-in_err-second : goal.returns-in_err-second
+returns-in_err-second c =
+    let first = c.in_ok-first.ensures in
+    let said = c.in_err-second.ensures in
+    let p = err_from_is_err_and c.from_residual-in_err-second.result c.from_residual-in_err-second.ensures.1 in
     record {
       stays = same_then _ _ _ first.stays said.stays;
       lent = record { gates = refl; outputs = refl };
@@ -32,14 +32,14 @@ returns-in-err-second c =
 
 pub returns : goal.returns
 returns c =
-    let one = c.in-ok-first.ensures in
-    let two = c.in-ok-second.ensures in
-    let n = c.in-ok-first.first in
-    let m = c.in-ok-second.second in
+    let one = c.in_ok-first.ensures in
+    let two = c.in_ok-second.ensures in
+    let n = c.in_ok-first.first in
+    let m = c.in_ok-second.second in
     let a : Word = record { name = n; some = one.next.1 } in
     let b : Word = record { name = m; some = two.next.1 } in
-    let left = c.signal-of-left.ensures in
-    let right = c.signal-of-right.ensures in
+    let left = c.signal_of-left.ensures in
+    let right = c.signal_of-right.ensures in
     let d = c.args.draft.now in
     let keys = keys_of c.args.names.now in
     record {

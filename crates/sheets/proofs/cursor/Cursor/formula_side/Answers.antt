@@ -9,15 +9,15 @@ use Rattle.sheets.specs.Tokens.{Next}
 use Rattle.sheets.proofs.FormulaSpelling.{no_line_end, no_whole}
 use Rattle.sheets.proofs.cursor.Cursor.formula_side.Goals as goal
 
-pub returns-in-err-signal : goal.returns-in-err-signal
-returns-in-err-signal c =
-    let said = c.in-err-signal.ensures in
-    let p = err_from_is_err_and c.from-residual.result c.from-residual.ensures.1 in
+pub returns-in_err-signal : goal.returns-in_err-signal
+returns-in_err-signal c =
+    let said = c.in_err-signal.ensures in
+    let p = err_from_is_err_and c.from_residual.result c.from_residual.ensures.1 in
     record { stays = said.stays; lent = said.lent; side = rw (p.1, p.2) (said.read.0, no_whole (ahead c.args.self.now) said.read.1) }
 
 pub returns-in-LineEnd : goal.returns-in-LineEnd
 returns-in-LineEnd c =
-    let said = c.in-ok-signal.ensures in
+    let said = c.in_ok-signal.ensures in
     let read = said.read.0 in
     let drawn = read.drawn in
     let done = subst (λ t. Next read.after t (ahead c.formula.new.self)) c.in-LineEnd.is read.next in
@@ -35,15 +35,15 @@ returns-in-LineEnd c =
       };
     }
 
-pub returns-in-default : goal.returns-in-default
-returns-in-default c =
-    let said = c.in-ok-signal.ensures in
+pub returns-in_default : goal.returns-in_default
+returns-in_default c =
+    let said = c.in_ok-signal.ensures in
     let read = said.read.0 in
     record {
       stays = said.stays;
       lent = said.lent;
       side = (
         c.refuse.ensures ∙ ap (fault NoForm) said.stays.line,
-        no_line_end (ahead c.args.self.now) read.formula read.after (ahead c.formula.new.self) c.in-ok-signal.token read.next said.read.1 c.in-default.not-LineEnd read.tokens,
+        no_line_end (ahead c.args.self.now) read.formula read.after (ahead c.formula.new.self) c.in_ok-signal.token read.next said.read.1 c.in_default.not-LineEnd read.tokens,
       );
     }

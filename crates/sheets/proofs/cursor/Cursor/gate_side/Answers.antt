@@ -7,17 +7,17 @@ use Rattle.sheets.proofs.Drafts.{others_then, lists_then}
 use Rattle.sheets.proofs.GateSides.{no_word}
 use Rattle.sheets.proofs.cursor.Cursor.gate_side.Goals as goal
 
-pub returns-in-err-kind : goal.returns-in-err-kind
-returns-in-err-kind c =
-    let said = c.in-err-kind.ensures in
-    let p = err_from_is_err_and c.from-residual.result c.from-residual.ensures.1 in
+pub returns-in_err-kind : goal.returns-in_err-kind
+returns-in_err-kind c =
+    let said = c.in_err-kind.ensures in
+    let p = err_from_is_err_and c.from_residual.result c.from_residual.ensures.1 in
     record { stays = said.stays; lent = record { gates = refl; outputs = refl }; side = rw (p.1, p.2) (said.word.0, no_word _ said.word.1) }
 
-pub returns-in-err-gate : goal.returns-in-err-gate
-returns-in-err-gate c =
-    let first = c.in-ok-kind.ensures in
-    let said = c.in-err-gate.ensures in
-    let p = err_from_is_err_and c.from-residual-in-err-gate.result c.from-residual-in-err-gate.ensures.1 in
+pub returns-in_err-gate : goal.returns-in_err-gate
+returns-in_err-gate c =
+    let first = c.in_ok-kind.ensures in
+    let said = c.in_err-gate.ensures in
+    let p = err_from_is_err_and c.from_residual-in_err-gate.result c.from_residual-in_err-gate.ensures.1 in
     record {
       stays = same_then _ _ _ first.stays said.stays;
       lent = said.lent;
@@ -26,8 +26,8 @@ returns-in-err-gate c =
 
 pub returns : goal.returns
 returns c =
-    let first = c.in-ok-kind.ensures in
-    let said = c.in-ok-gate.ensures in
+    let first = c.in_ok-kind.ensures in
+    let said = c.in_ok-gate.ensures in
     let read = said.gate in
     let noted = read.noted in
     let put = c.emit.ensures in

@@ -5,10 +5,10 @@ use Rattle.sheets.specs.declared.token.Token.TheVariants.{Identifier}
 use Rattle.sheets.proofs.NextToken.{one_next}
 use Rattle.sheets.proofs.cursor.Cursor.identifier.Goals as goal
 
-pub returns-in-default : goal.returns-in-default
-returns-in-default c =
-    let said = c.in-ok-name.ensures in
+pub returns-in_default : goal.returns-in_default
+returns-in_default c =
+    let said = c.in_ok-name.ensures in
     record {
       stays = said.stays;
-      next = (c.refuse.ensures ∙ ap (fault NoForm) said.stays.line, λ n rest h. c.in-default.not-Identifier n (one_next _ _ rest _ (Identifier n) said.next h));
+      next = (c.refuse.ensures ∙ ap (fault NoForm) said.stays.line, λ n rest h. c.in_default.not-Identifier n (one_next _ _ rest _ (Identifier n) said.next h));
     }

@@ -10,17 +10,17 @@ loop-self-preserved c =
     let so = c.loop-self.invariant in
     let said = c.advance.ensures in (
       said.text ∙ so.0,
-      sym (cond-true _ _ _ (sym c.if-not-is-silent.ensures)) ∙ sym (ap speaking said.lines) ∙ so.1,
+      sym (cond-true _ _ _ (sym c.if-not-is_silent.ensures)) ∙ sym (ap speaking said.lines) ∙ so.1,
     )
 
-pub returns-then-not-is-silent : goal.returns-then-not-is-silent
-returns-then-not-is-silent c =
+pub returns-then-not-is_silent : goal.returns-then-not-is_silent
+returns-then-not-is_silent c =
     let so = c.loop-self.invariant in
     let said = c.advance.ensures in
     let here = c.advance.new.self in
     record {
       text = said.text ∙ so.0;
-      lines = (sym so.1 ∙ ap speaking said.lines ∙ cond-false _ _ _ (sym c.if-not-is-silent.ensures), ap (λ k. tokens (span here.text.now k here.end)) said.start);
+      lines = (sym so.1 ∙ ap speaking said.lines ∙ cond-false _ _ _ (sym c.if-not-is_silent.ensures), ap (λ k. tokens (span here.text.now k here.end)) said.start);
     }
 
 pub returns : goal.returns

@@ -9,10 +9,10 @@ use Rattle.sheets.proofs.cursor.Cursor.next_token.Goals as goal
 
 pub returns : goal.returns
 returns c =
-    let here = c.skip-spaces.new.self in
-    let said = c.skip-spaces.ensures in
+    let here = c.skip_spaces.new.self in
+    let said = c.skip_spaces.ensures in
     let more : here.at < here.end = omega arith in
-    let plain = sym c.if-is-word-byte.ensures in
+    let plain = sym c.if-is_word_byte.ensures in
     let N : Token → Type 0 = λ t. Next (ahead c.args.self.now) t (tokens (span here.text.now (here.at + 1) here.end)) in
     record {
       stays = record { text = said.stays.text; line = said.stays.line; end = said.stays.end };

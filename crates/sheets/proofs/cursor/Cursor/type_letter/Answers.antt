@@ -5,10 +5,10 @@ use Rattle.sheets.specs.declared.token.Token.TheVariants.{TypeLetter}
 use Rattle.sheets.proofs.NextToken.{one_next}
 use Rattle.sheets.proofs.cursor.Cursor.type_letter.Goals as goal
 
-pub returns-in-default : goal.returns-in-default
-returns-in-default c =
-    let said = c.in-ok-decomposition.ensures in
+pub returns-in_default : goal.returns-in_default
+returns-in_default c =
+    let said = c.in_ok-decomposition.ensures in
     record {
       stays = said.stays;
-      next = (c.refuse.ensures ∙ ap (fault NoForm) said.stays.line, λ t rest h. c.in-default.not-TypeLetter t (one_next _ _ rest _ (TypeLetter t) said.next h));
+      next = (c.refuse.ensures ∙ ap (fault NoForm) said.stays.line, λ t rest h. c.in_default.not-TypeLetter t (one_next _ _ rest _ (TypeLetter t) said.next h));
     }

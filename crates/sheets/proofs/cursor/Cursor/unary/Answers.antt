@@ -8,18 +8,18 @@ use Rattle.sheets.specs.Symbols.{known}
 use Rattle.sheets.proofs.GateSides.{noted_one}
 use Rattle.sheets.proofs.cursor.Cursor.unary.Goals as goal
 
-pub returns-in-err-argument : goal.returns-in-err-argument
-returns-in-err-argument c =
-    let said = c.in-err-argument.ensures in
-    let p = err_from_is_err_and c.from-residual.result c.from-residual.ensures.1 in
+pub returns-in_err-argument : goal.returns-in_err-argument
+returns-in_err-argument c =
+    let said = c.in_err-argument.ensures in
+    let p = err_from_is_err_and c.from_residual.result c.from_residual.ensures.1 in
     record { stays = said.stays; lent = record { gates = refl; outputs = refl }; gate = rw (p.1, p.2) (said.next.0, λ a e. said.next.1 a.name (e, a.some)) }
 
 pub returns : goal.returns
 returns c =
-    let said = c.in-ok-argument.ensures in
-    let n = c.in-ok-argument.argument in
+    let said = c.in_ok-argument.ensures in
+    let n = c.in_ok-argument.argument in
     let a : Word = record { name = n; some = said.next.1 } in
-    let looked = c.signal-of-signal.ensures in
+    let looked = c.signal_of-signal.ensures in
     let d = c.args.draft.now in
     record {
       stays = said.stays;

@@ -8,23 +8,23 @@ pub add-requires : goal.add-requires
 add-requires c =
     record {
       sound = c.requires;
-      fresh = none_from _ (sym (ap is_some c.look-up.ensures) ∙ sym c.if-is-some.ensures);
-      room = (c.has-room.ensures.0 c.if-not-has-room.false).names;
+      fresh = none_from _ (sym (ap is_some c.look_up.ensures) ∙ sym c.if-is_some.ensures);
+      room = (c.has_room.ensures.0 c.if-not-has_room.false).names;
     }
 
 pub returns-then-self : goal.returns-then-self
 returns-then-self c = record { judged = unknown c.if-self.true; sound = c.requires; capacity = refl }
 
-pub returns-then-is-some : goal.returns-then-is-some
-returns-then-is-some c = record {
-  judged = repeated c.if-self.false (sym (ap is_some c.look-up.ensures) ∙ sym c.if-is-some.ensures);
+pub returns-then-is_some : goal.returns-then-is_some
+returns-then-is_some c = record {
+  judged = repeated c.if-self.false (sym (ap is_some c.look_up.ensures) ∙ sym c.if-is_some.ensures);
   sound = c.requires;
   capacity = refl;
 }
 
-pub returns-then-not-has-room : goal.returns-then-not-has-room
-returns-then-not-has-room c = record {
-  judged = too_large c.if-self.false (sym (ap is_some c.look-up.ensures) ∙ sym c.if-is-some.ensures) (not_from_Decides _ c.has-room.ensures c.if-not-has-room.true);
+pub returns-then-not-has_room : goal.returns-then-not-has_room
+returns-then-not-has_room c = record {
+  judged = too_large c.if-self.false (sym (ap is_some c.look_up.ensures) ∙ sym c.if-is_some.ensures) (not_from_Decides _ c.has_room.ensures c.if-not-has_room.true);
   sound = c.requires;
   capacity = refl;
 }
@@ -32,7 +32,7 @@ returns-then-not-has-room c = record {
 pub returns : goal.returns
 returns c = record {
   judged =
-      defined c.if-self.false (sym (ap is_some c.look-up.ensures) ∙ sym c.if-is-some.ensures) (c.has-room.ensures.0 c.if-not-has-room.false) c.add.ensures.keys;
+      defined c.if-self.false (sym (ap is_some c.look_up.ensures) ∙ sym c.if-is_some.ensures) (c.has_room.ensures.0 c.if-not-has_room.false) c.add.ensures.keys;
   sound = c.add.ensures.sound;
   capacity = c.add.ensures.capacity;
 }

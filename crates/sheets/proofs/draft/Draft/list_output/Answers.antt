@@ -6,8 +6,8 @@ use Rattle.sheets.specs.Drafts.{unknown, repeated, too_large, listed}
 use Rattle.sheets.proofs.Lookups.{found_zero}
 use Rattle.sheets.proofs.draft.Draft.list_output.Goals as goal
 
-pub returns-in-default : goal.returns-in-default
-returns-in-default c = record { judged = unknown (ap is_some (sym c.in-default.ensures)); lent = record { gates = refl; outputs = refl } }
+pub returns-in_default : goal.returns-in_default
+returns-in_default c = record { judged = unknown (ap is_some (sym c.in_default.ensures)); lent = record { gates = refl; outputs = refl } }
 
 pub returns-then-lists : goal.returns-then-lists
 returns-then-lists c =

@@ -7,4 +7,4 @@ pub returns : goal.returns
 returns c =
     let n = c.args.self.now.output_count in
     let e : n - 0 ≡ n = omega arith in
-    c.is-listed.ensures ∙ ap (λ k. lists (take k c.args.self.now.outputs.now) (spelling c.args.name)) e
+    c.is_listed.ensures ∙ ap (λ k. lists (take k c.args.self.now.outputs.now) (spelling c.args.name)) e

@@ -3,12 +3,12 @@ use Rattle.sheets.specs.declared.notation.Notation.TheVariants.{Gates, Formulas}
 use Rattle.sheets.proofs.Marks.{marked_test, opened_mark}
 use Rattle.sheets.proofs.notation.Notation.of_text.Goals as goal
 
-pub returns-then-starts-with : goal.returns-then-starts-with
-returns-then-starts-with c =
-    let mark = sym (ap (λ b. cond b Formulas Gates) (marked_test c.args.text.now (codes "FRM") true c.if-starts-with.ensures.value)) in
+pub returns-then-starts_with : goal.returns-then-starts_with
+returns-then-starts_with c =
+    let mark = sym (ap (λ b. cond b Formulas Gates) (marked_test c.args.text.now (codes "FRM") true c.if-starts_with.ensures.value)) in
     record { mark = mark; opens = λ n h. mark ∙ opened_mark n c.args.text.now (Ok tt) h }
 
-pub returns-else-starts-with : goal.returns-else-starts-with
-returns-else-starts-with c =
-    let mark = sym (ap (λ b. cond b Formulas Gates) (marked_test c.args.text.now (codes "FRM") false c.if-starts-with.ensures.value)) in
+pub returns-else-starts_with : goal.returns-else-starts_with
+returns-else-starts_with c =
+    let mark = sym (ap (λ b. cond b Formulas Gates) (marked_test c.args.text.now (codes "FRM") false c.if-starts_with.ensures.value)) in
     record { mark = mark; opens = λ n h. mark ∙ opened_mark n c.args.text.now (Ok tt) h }

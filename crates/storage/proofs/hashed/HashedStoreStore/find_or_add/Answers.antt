@@ -15,7 +15,7 @@ returns-then-len-ge-LIMIT c =
     let F : Result ℕ Fault → Type 0 = λ r. FindsOrAdds (capacity_for (table.capacity_of t)) (nodes ks) c.args.node r (nodes ks) in
     record {
       sound = so;
-      nodes = subst F (sym (c.ok-or.ensures.value ∙ ap (ok_or c.find.result) c.at.ensures)) (full_finds ks (table.capacity_of t) c.args.node c.find.result (omega (arith, c.len.ensures, c.if-len-ge-LIMIT.true)) so.stored.within c.find.ensures);
+      nodes = subst F (sym (c.ok_or.ensures.value ∙ ap (ok_or c.find.result) c.at.ensures)) (full_finds ks (table.capacity_of t) c.args.node c.find.result (omega (arith, c.len.ensures, c.if-len-ge-LIMIT.true)) so.stored.within c.find.ensures);
       capacity = refl;
       lent = refl;
     }

@@ -14,7 +14,7 @@ returns-then-place-capacity c =
     let full : length nodes ≡ capacity_for (length s.cells.now) = c.requires.sound.count ∙ c.if-place-capacity.true ∙ c.capacity.ensures in
     record {
       sound = c.requires.sound;
-      nodes = subst (λ f. FindsOrAdds (capacity_for (length s.cells.now)) nodes c.args.node (Err f) nodes) (sym c.at.ensures) (refused c.in-default.ensures full);
+      nodes = subst (λ f. FindsOrAdds (capacity_for (length s.cells.now)) nodes c.args.node (Err f) nodes) (sym c.at.ensures) (refused c.in_default.ensures full);
       capacity = refl;
       lent = refl;
     }
@@ -27,7 +27,7 @@ returns c =
     let n = c.args.node in
     let so = c.requires.sound in
     let cap = capacity_for (length cells) in
-    let absent = c.in-default.ensures in
+    let absent = c.in_default.ensures in
     let after = c.write.new.self.cells.now in
     let room : length (take len cells) < cap = omega (arith, so.count, so.stored.within, c.capacity.ensures, c.if-place-capacity.false) in
     let long : length after ≡ length cells = ap length c.write.ensures.cells ∙ length-set cells len n in

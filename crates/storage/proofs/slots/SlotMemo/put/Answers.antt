@@ -4,8 +4,8 @@ use Rattle.storage.specs.SlotMemos.{answers_in, home}
 use Rattle.storage.proofs.SlotAnswers.{home_slot, keeps_as, keeps_slot, none_twice, replaces_as, replaces_none, replaces_slot}
 use Rattle.storage.proofs.slots.SlotMemo.put.Goals as goal
 
-pub returns-in-default : goal.returns-in-default
-returns-in-default c = record { sound = c.requires.sound; answers = λ e m. inl m; lent = refl; slot = replaces_none _ _ _ _ _ (sym c.in-default.ensures) }
+pub returns-in_default : goal.returns-in_default
+returns-in_default c = record { sound = c.requires.sound; answers = λ e m. inl m; lent = refl; slot = replaces_none _ _ _ _ _ (sym c.in_default.ensures) }
 
 pub returns : goal.returns
 returns c =
