@@ -1,5 +1,5 @@
 -- The kind that a number tells is the one that the reader of kinds finds.
-use Rattle.std.proofs.Common.{◌≡◌, ℕ, true, false, cond, eqb, List, [], ◌∷◌, Some, None, Option, sym, refl, ap, ◌∙◌, subst}
+use Rattle.std.proofs.Common.{◌≡◌, ℕ, eqb, List, [], ◌∷◌, Some, None, Option, sym, refl, ap, ◌∙◌}
 use Rattle.std.proofs.lemmas.Bool.{ne_eqb, cond-false}
 use Rattle.model.specs.Gates.{kind_number, Numbered}
 use Rattle.model.specs.Nets.{kind_among, kind_of}

@@ -1,13 +1,13 @@
 -- The value of each gate from its arguments', and that later gates change no earlier value.
-use Rattle.std.proofs.Common.{◌≡◌, ℕ, zero, suc, ◌+◌, ◌-◌, ◌<◌, ◌≤◌, Bool, true, false, cond, ◌&&◌, T, ltb, List, [], ◌∷◌, ◌++◌, length, get_or, take, drop, set, Some, None, Ok, Err, Option, Result, unwrap_or, sym, refl, ap, ◌∙◌, subst, ap₂, ⊎_elim, arith}
+use Rattle.std.proofs.Common.{◌≡◌, ℕ, zero, suc, ◌+◌, ◌-◌, ◌<◌, ◌≤◌, Bool, true, false, cond, ◌&&◌, ltb, List, [], ◌∷◌, ◌++◌, length, get_or, take, drop, set, Some, None, Ok, Err, Option, Result, unwrap_or, sym, refl, ap, ◌∙◌, subst, ap₂, ⊎_elim, arith}
 use Rattle.std.proofs.lemmas.List.{append_assoc, drop_more, get_or_append_left, get_or_past, get_or_push, length_push, length-take-le, ext_get_or, get_or-take, length-take, set_at, take-append-drop, take_more}
 use Rattle.std.proofs.lemmas.Bool.{and_parts, cases_lt, cond-true, cond-false, lt-ltb, le-ltb, ltb-true}
-use Rattle.model.specs.Gates.{arguments_of, empty_gate}
+use Rattle.model.specs.Gates.{empty_gate}
 use Rattle.model.specs.Names.{every}
 use Rattle.model.specs.Nets.{fact_value, gate_value, gate_values, kind_of, operation, signal_value, values_after}
 use Rattle.model.specs.Rings.{Ring}
 use Rattle.model.specs.declared.fault.Refusal.{Refusal}
-use Rattle.model.specs.declared.fault.Refusal.TheVariants.{BadGate, BadConstant}
+use Rattle.model.specs.declared.fault.Refusal.TheVariants.{BadGate}
 use Rattle.model.specs.declared.gate.Gate.{Gate}
 use Rattle.model.specs.declared.gate.GateKind.{GateKind}
 use Rattle.model.specs.declared.gate.GateKind.TheVariants.{Const, Sum, Times, Minus, Not, Or}

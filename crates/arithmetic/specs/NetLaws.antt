@@ -1,7 +1,7 @@
 -- What holds of the values of every net that passes the checks.
 use Rattle.std.specs.Prelude.{◌≡◌, ℕ, ◌<◌, Bool, T, List, length, Ok, slice_index, slice_index_or}
 use Rattle.model.specs.Gates.{empty_gate}
-use Rattle.model.specs.Nets.{gate_value, gate_values, output_value}
+use Rattle.model.specs.Nets.{gate_value, gate_values}
 use Rattle.model.specs.Rings.{Ring}
 use Rattle.model.specs.declared.gate.Gate.{Gate}
 use Rattle.model.specs.declared.output.Output.{Output}

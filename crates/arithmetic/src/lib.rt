@@ -1,4 +1,6 @@
 // The arithmetics that rule sheets are worked out in.
+#![tactic(auto)]
+
 mod amounts;
 mod assignment;
 mod net_checks;
