@@ -1,10 +1,10 @@
 -- Equal values everywhere make equal roots.
-use Rattle.std.proofs.Common.{◌≡◌, ℕ, zero, suc, ◌+◌, ◌-◌, ◌<◌, ◌≤◌, Bool, true, false, cond, T, eqb, ◌⊎◌, List, [], ◌∷◌, ◌++◌, length, get_or, sym, refl, ap, ◌∙◌, subst, ap₂, inl, inr, arith}
+use Rattle.std.proofs.Common.{◌≡◌, ℕ, zero, suc, ◌+◌, ◌<◌, ◌≤◌, Bool, true, false, cond, T, eqb, ◌⊎◌, List, length, get_or, sym, ap, ◌∙◌, subst, ap₂, inl, inr, arith}
 use native.Mathlib.Decide.{dec_lt}
 use Rattle.model.specs.Rings.{Ring, Closed, Laws}
 use Rattle.model.specs.Roots.{blank_node}
 use Rattle.kfdd.specs.Values.{mix, value}
-use Rattle.kfdd.specs.Reduced.{level, Held, Needed, Placed, Reduced}
+use Rattle.kfdd.specs.Reduced.{level, Held, Needed, Reduced}
 use Rattle.arithmetic.proofs.RingLaws.{cancel, adds_nothing}
 use Rattle.kfdd.proofs.Values.{held_more, value_leaf, value_node}
 use Rattle.model.specs.declared.root.Root.{Root}

@@ -1,14 +1,14 @@
 -- The value of each node from its children's, and that later nodes change no earlier value.
-use Rattle.std.proofs.Common.{◌≡◌, ℕ, zero, suc, ◌+◌, ◌-◌, ◌<◌, ◌≤◌, Bool, true, false, T, List, [], ◌∷◌, ◌++◌, length, get_or, sym, refl, ap, ◌∙◌, subst, ap₂, add-zero, arith, length-append}
+use Rattle.std.proofs.Common.{◌≡◌, ℕ, zero, suc, ◌+◌, ◌<◌, ◌≤◌, Bool, List, [], ◌∷◌, ◌++◌, length, get_or, sym, refl, ◌∙◌, subst, ap₂, add-zero, arith}
 use Rattle.std.proofs.lemmas.List.{get_or_append_left, get_or_push, length_push}
-use Rattle.model.specs.Rings.{Ring, Closed, Laws}
+use Rattle.model.specs.Rings.{Ring}
 use Rattle.model.specs.Roots.{blank_node}
 use Rattle.kfdd.specs.Values.{mix, at_root, node_value, values_after, value}
 use Rattle.kfdd.specs.Reduced.{Held}
 use Rattle.model.specs.declared.root.Root.{Root}
 use Rattle.model.specs.declared.root.Root.TheVariants.{Leaf, Inner}
 use Rattle.model.specs.declared.decomposition.Decomposition.{Decomposition}
-use Rattle.model.specs.declared.decomposition.Decomposition.TheVariants.{Shannon, PositiveDavio, NegativeDavio}
+use Rattle.model.specs.declared.decomposition.Decomposition.TheVariants.{Shannon}
 use Rattle.model.specs.declared.node.Node.{Node}
 
 pub held_more : (R : Ring) (j k : ℕ) (r : Root) → j ≤ k → Held R j r → Held R k r

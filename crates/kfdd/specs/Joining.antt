@@ -1,5 +1,5 @@
 -- Joining a fact, a low and a high; a fact by itself.
-use Rattle.std.specs.Prelude.{ℕ, suc, Bool, true, false, cond, ◌&&◌, List, [], ◌∷◌, ◌++◌, length, Some, None, Option, ◌==◌, nat_lt, slice_index_or}
+use Rattle.std.specs.Prelude.{ℕ, suc, Bool, false, cond, ◌&&◌, List, [], ◌∷◌, ◌++◌, length, Some, None, Option, ◌==◌, nat_lt, slice_index_or}
 use Rattle.model.specs.Rings.{Ring}
 use Rattle.model.specs.declared.root.Root.{Root}
 use Rattle.model.specs.declared.root.Root.TheVariants.{Leaf, Inner}

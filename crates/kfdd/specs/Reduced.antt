@@ -1,6 +1,6 @@
 -- Roots that a list of nodes holds, and the lists that diagrams keep.
-use Rattle.std.specs.Prelude.{◌≡◌, ℕ, ◌+◌, ◌<◌, ◌≤◌, Bool, true, false, T, List, [], ◌∷◌, ◌++◌, length, get_or, slice_index_or}
-use Rattle.model.specs.Rings.{Ring, Closed, Laws}
+use Rattle.std.specs.Prelude.{◌≡◌, ℕ, ◌<◌, T, List, length, get_or, slice_index_or}
+use Rattle.model.specs.Rings.{Ring}
 use Rattle.model.specs.declared.root.Root.{Root}
 use Rattle.model.specs.declared.root.Root.TheVariants.{Leaf, Inner}
 use Rattle.model.specs.declared.decomposition.Decomposition.{Decomposition}

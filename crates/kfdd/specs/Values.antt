@@ -1,6 +1,6 @@
 -- What a list of nodes is worth under an assignment.
-use Rattle.std.specs.Prelude.{◌≡◌, ℕ, ◌+◌, ◌<◌, ◌≤◌, Bool, true, false, T, List, [], ◌∷◌, ◌++◌, length, slice_index, slice_index_or}
-use Rattle.model.specs.Rings.{Ring, Closed, Laws}
+use Rattle.std.specs.Prelude.{ℕ, Bool, true, false, List, [], ◌∷◌, ◌++◌, slice_index, slice_index_or}
+use Rattle.model.specs.Rings.{Ring}
 use Rattle.model.specs.declared.root.Root.{Root}
 use Rattle.model.specs.declared.root.Root.TheVariants.{Leaf, Inner}
 use Rattle.model.specs.declared.decomposition.Decomposition.{Decomposition}

@@ -1,4 +1,6 @@
 // The mathematics of the diagrams: definitions, and the theorems that the layers above rest on.
+#![tactic(auto)]
+
 mod comparing;
 mod counts;
 mod recipe;
