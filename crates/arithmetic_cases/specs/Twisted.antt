@@ -1,5 +1,5 @@
 -- An arithmetic whose product is not associative, and whose zero and one are neither 0 nor 1.
-use Rattle.std.specs.Prelude.{ℕ, ◌+◌, ◌*◌, ◌/◌, ◌%◌, Bool, ◌==◌, bit_and, bit_xor}
+use Rattle.std.specs.Prelude.{ℕ, ◌+◌, ◌*◌, ◌/◌, ◌%◌, ◌==◌, bit_and, bit_xor}
 use Rattle.model.specs.Rings.{Ring}
 
 -- The value 8 + c + 2 a + 4 b stands for c + a x + b y, where c, a and b are 0 or 1 and counted modulo 2.

@@ -1,4 +1,6 @@
 // Arithmetics, the checks of nets and their values at the edges. The crate holds only tests.
+#![tactic(auto)]
+
 #[cfg(test)]
 mod assignments;
 #[cfg(test)]
