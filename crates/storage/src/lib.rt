@@ -1,4 +1,6 @@
 // Where nodes lie, and where answered questions are remembered.
+#![tactic(auto)]
+
 mod blank;
 mod calls;
 mod hashed;

@@ -1,6 +1,8 @@
 // Adds different nodes to a hashed store and finds them again: `store_bench [COUNT [timed]]`. With
 // `timed` it prints only the nanoseconds that this took; the cells are allocated and emptied
 // beforehand.
+#![tactic(auto)]
+
 ghost use Rattle.storage.specs.HashedStores.{Sound};
 
 use nodes::nth;

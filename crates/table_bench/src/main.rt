@@ -1,5 +1,7 @@
 // Adds distinct keys to a table and finds them again: `table_bench [COUNT [timed]]`. With `timed`
 // it prints only the nanoseconds that this took; the cells are allocated and emptied beforehand.
+#![tactic(auto)]
+
 ghost use Rattle.table.specs.Tables.{Sound};
 ghost use Rattle.table_bench.specs.Scattering.{same_number, upper_half};
 

@@ -1,3 +1,5 @@
+#![tactic(auto)]
+
 // The numbered table at several kinds of keys. The crate holds only tests.
 #[cfg(test)]
 mod keys;
