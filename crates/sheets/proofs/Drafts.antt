@@ -1,5 +1,5 @@
 -- What becomes of a draft from step to step.
-use Rattle.std.proofs.Common.{◌≡◌, sym, refl, ap, ◌∙◌, subst}
+use Rattle.std.proofs.Common.{◌∙◌}
 use Rattle.sheets.specs.Drafts.{Others, SameLists}
 use Rattle.sheets.specs.declared.draft.Draft.{Draft}
 

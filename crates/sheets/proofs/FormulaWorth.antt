@@ -1,6 +1,7 @@
 -- The gates that a formula makes are worth what the formula says.
 use Rattle.std.proofs.Common.{◌≡◌, ℕ, ◌+◌, ◌<◌, Bool, List, [], ◌∷◌, ◌++◌, length, Some, All, sym, refl, ap, ◌∙◌, subst, arith}
-use Rattle.std.proofs.lemmas.List.{append_assoc, append-nil, length-append}
+use Rattle.std.proofs.lemmas.List.{append_assoc, append-nil, get_or_append_left, get_or-append-add, length-append}
+use Rattle.std.proofs.lemmas.List.Elements.{All-head}
 use Rattle.model.specs.Gates.{one_argument, two_arguments}
 use Rattle.model.specs.Nets.{operation, signal_value, values_after}
 use Rattle.model.specs.Rings.{Ring}
@@ -15,12 +16,10 @@ use Rattle.sheets.proofs.GrownNets.{added, after_added, after_append, after_leng
 
 module _ {X : Type 0} (P : X → Type 0) where
   all_front : (xs ys : List X) → All P (xs ++ ys) → All P xs
-  all_front [] ys h = tt
-  all_front (x ∷ xs) ys (here, more) = (here, all_front xs ys more)
+  all_front xs ys h k d lt = subst P (get_or_append_left xs ys d k lt) (h k d (omega (arith, length-append xs ys)))
 
   all_back : (xs ys : List X) → All P (xs ++ ys) → All P ys
-  all_back [] ys h = h
-  all_back (x ∷ xs) ys (here, more) = all_back xs ys more
+  all_back xs ys h k d lt = subst P (get_or-append-add xs ys k d) (h (length xs + k) d (omega (arith, length-append xs ys)))
 
 module _ (R : Ring) (facts : ℕ) (x : ℕ → Bool) where
   -- what is made has a signal that is there then, and that has a value
@@ -111,7 +110,7 @@ module _ (R : Ring) (facts : ℕ) (x : ℕ → Bool) where
         factor_means : (f : Factor) → All Stands (factor_names f) → Means vs (factor_made signal f) (factor_value R worths f)
         factor_means (negated f) stand = means_one Not (factor_made signal f) _ _ (factor_means f stand) (λ b. refl)
         factor_means (bracketed f) stand = formula_means f stand
-        factor_means (word w) stand = means_standing (signal (written w)) (worths (written w)) stand.0.0 stand.0.1
+        factor_means (word w) stand = let here = All-head Stands w [] stand in means_standing (signal (written w)) (worths (written w)) here.0 here.1
         factor_means (numeral n) stand = means_constant n.value
 
       -- in the net itself

@@ -1,9 +1,9 @@
 -- The mark of a text tells its notation.
-use Rattle.std.proofs.Common.{◌≡◌, ℕ, zero, suc, ◌+◌, ◌≤◌, Bool, cond, eqb, List, [], ◌∷◌, ◌++◌, length, take, IfOk, codes, Decides, Result, sym, refl, ap, ◌∙◌, ⊎_elim, arith}
+use Rattle.std.proofs.Common.{◌≡◌, ℕ, zero, suc, ◌+◌, ◌≤◌, Bool, cond, eqb, List, [], ◌∷◌, ◌++◌, length, take, IfOk, codes, Result, sym, refl, ap, ◌∙◌, ⊎_elim, arith}
 use Rattle.std.proofs.lemmas.Slice.Eq.{slice_eq-Decides, bytes_eq-Decides}
 use Rattle.std.proofs.lemmas.Bool.{cases_Bool, cond-false, cond-true}
 use Rattle.std.proofs.lemmas.Bool.Decides.{same_from_decides, Decides-eqb}
-use Rattle.std.specs.Cmp.Lexicographic.{Matches}
+use Rattle.std.specs.Cmp.Lexicographic.{pointwise}
 use Rattle.std.specs.Str.{bytes_eq}
 use Rattle.model.specs.declared.fault.Fault.{Fault}
 use Rattle.sheets.specs.Lines.{heading, in_front, Line, line_at, lines_from}
@@ -43,7 +43,7 @@ opened_mark n text _ (wrong_version plain v h other) = tt
 opened_mark n text _ (opens plain h) = marked_by n text _ h.1
 
 -- the test of the first bytes
-pub marked_test : (text mark : List ℕ) (r : Bool) → Matches (λ (a b : ℕ) (t : Bool). Decides t (a ≡ b)) mark (take (length mark) text) r → bytes_eq (take (length mark) text) mark ≡ r
+pub marked_test : (text mark : List ℕ) (r : Bool) → r ≡ pointwise eqb mark (take (length mark) text) → bytes_eq (take (length mark) text) mark ≡ r
 marked_test text mark r m =
     let d = slice_eq-Decides Decides-eqb mark (take (length mark) text) r m in
     same_from_decides (bytes_eq (take (length mark) text) mark) r (bytes_eq-Decides (take (length mark) text) mark) (λ h. sym (d.0 h), λ e. d.1 (sym e))

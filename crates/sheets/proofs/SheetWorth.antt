@@ -1,6 +1,6 @@
 -- The gates and outputs of a rule sheet mean what its lines say.
 use Rattle.std.proofs.Common.{◌≡◌, ℕ, suc, ◌+◌, ◌<◌, Bool, true, false, cond, ltb, List, [], ◌∷◌, ◌++◌, map, length, take, is_some, IfOk, Some, None, Ok, Err, All, Result, unwrap_or, sym, refl, ap, ◌∙◌, subst, ⊎_elim, arith}
-use Rattle.std.proofs.lemmas.List.Elements.{All-push, All-weaker}
+use Rattle.std.proofs.lemmas.List.Elements.{All-cons, All-head, All-nil, All-push, All-tail, All-weaker}
 use Rattle.std.proofs.lemmas.Slice.Eq.{bytes_eq-Decides}
 use Rattle.std.proofs.lemmas.List.{append_assoc, append-nil, length-append, map-append, take_at}
 use Rattle.std.proofs.lemmas.Bool.{and_parts, cases_Bool, cond-false, cond-true, lt-ltb, true≢false}
@@ -55,8 +55,8 @@ found_last (z ∷ ss) s name k =
     (cases_Bool (bytes_eq (spelling z.name) name))
 
 all_from_known : (ss : List Symbol) (ws : List Word) → all_known ss ws ≡ true → All (λ w. known ss (written w) ≡ true) ws
-all_from_known ss [] h = tt
-all_from_known ss (w ∷ ws) h = let both = and_parts (known ss (written w)) (all_known ss ws) h in (both.0, all_from_known ss ws both.1)
+all_from_known ss [] h = All-nil (λ w. known ss (written w) ≡ true)
+all_from_known ss (w ∷ ws) h = let both = and_parts (known ss (written w)) (all_known ss ws) h in All-cons (λ w. known ss (written w) ≡ true) w ws both.0 (all_from_known ss ws both.1)
 
 -- a kind of one argument looks at no other
 one_argument_worth : (R : Ring) (k : GateKind) → arity_of k ≡ 1 → (a b c : ℕ) → operation R (Some k) 0 a b ≡ operation R (Some k) 0 a c
@@ -93,8 +93,11 @@ module _ (R : Ring) (facts : ℕ) (x : ℕ → Bool) where
 
     gate_worths : (side : Side Gates) → All (Stands R facts x vs sig worths) (side_names Gates side) → Worth R facts x vs (emit Gates sig (facts + length vs) side) (side_worth R x Gates worths side)
     gate_worths (constant n) stand = record { there = omega arith; worth = signal_last R facts x vs _ _ refl ∙ constant_worth R facts x vs n.value }
-    gate_worths (unary k one a) stand = record { there = omega arith; worth = signal_last R facts x vs _ _ refl ∙ one_worth R facts x vs k (sig (written a)) (worths (written a)) stand.0.1 ∙ one_argument_worth R k one (worths (written a)) _ 0 }
-    gate_worths (binary k two a b) stand = record { there = omega arith; worth = signal_last R facts x vs _ _ refl ∙ two_worth R facts x vs k (sig (written a)) (sig (written b)) (worths (written a)) (worths (written b)) stand.0.1 stand.1.0.1 }
+    gate_worths (unary k one a) stand = record { there = omega arith; worth = signal_last R facts x vs _ _ refl ∙ one_worth R facts x vs k (sig (written a)) (worths (written a)) (All-head (Stands R facts x vs sig worths) a [] stand).1 ∙ one_argument_worth R k one (worths (written a)) _ 0 }
+    gate_worths (binary k two a b) stand =
+        let first = All-head (Stands R facts x vs sig worths) a (b ∷ []) stand in
+        let second = All-head (Stands R facts x vs sig worths) b [] (All-tail (Stands R facts x vs sig worths) a (b ∷ []) stand) in
+        record { there = omega arith; worth = signal_last R facts x vs _ _ refl ∙ two_worth R facts x vs k (sig (written a)) (sig (written b)) (worths (written a)) (worths (written b)) first.1 second.1 }
 
     side_means : (notation : Notation) (side : Side notation) → All (Stands R facts x vs sig worths) (side_names notation side) → Worth R facts x vs (emit notation sig (facts + length vs) side) (side_worth R x notation worths side)
     side_means Gates side stand = gate_worths side stand
@@ -150,7 +153,9 @@ module _ (R : Ring) (facts : ℕ) (x : ℕ → Bool) where
 
 map_same : {X : Type 0} {Y : Type 0} (f g : X → Y) (xs : List X) → All (λ x. f x ≡ g x) xs → map f xs ≡ map g xs
 map_same f g [] h = refl
-map_same f g (x ∷ xs) (here, more) = λ i. here i ∷ map_same f g xs more i
+map_same f g (x ∷ xs) h =
+    let here = All-head (λ x. f x ≡ g x) x xs h in
+    λ i. here i ∷ map_same f g xs (All-tail (λ x. f x ≡ g x) x xs h) i
 
 abbrev output_name : Output → List ℕ
 output_name o = spelling o.name
@@ -193,7 +198,7 @@ module _ (notation : Notation) (facts : ℕ) (rules : Rules) (l : Line) (ls : Li
         values = λ R x worths agree within.
             let a = agree (written w) k in
             let f : Output → ℕ = λ p. output_value R facts x rules.gates p in
-            c.values R x worths agree (All-push _ rules.outputs o within a.0)
+            c.values R x worths agree (All-push (λ p. p.signal < facts + length rules.gates) rules.outputs o within a.0)
             ∙ ap (λ us. us ++ listed_worths R x worths c.lines) (map-append f rules.outputs (o ∷ []) ∙ ap (λ v. map f rules.outputs ++ (v ∷ [])) a.1)
             ∙ append_assoc (map f rules.outputs) (worths (written w) ∷ []) (listed_worths R x worths c.lines);
       }
@@ -265,7 +270,7 @@ sheet_means notation facts room text r (RuleSheet.opened h fits reads) = whole r
   where
     whole : (q : Result Rules Fault) → IfOk q (λ final. Continued notation (length facts) (before_lines facts) (speaking (later (lines_from 0 text))) final)
         → IfOk q (λ rules. Means notation facts text rules.gates rules.outputs)
-    whole (Ok final) c = record { lines = c.lines; tokens = c.written_so; names = c.names; values = λ R x. c.values R x (fact_worths R x 0 facts) (facts_agree R x facts) tt }
+    whole (Ok final) c = record { lines = c.lines; tokens = c.written_so; names = c.names; values = λ R x. c.values R x (fact_worths R x 0 facts) (facts_agree R x facts) (All-nil (λ o. o.signal < length facts + 0)) }
     whole (Err f) c = tt
 
 -- what reading leaves in the lent lists

@@ -1,6 +1,7 @@
 -- Lines whose tokens are parted by single spaces are read as these tokens.
 use Rattle.std.proofs.Common.{◌≡◌, ℕ, ◌+◌, ◌<◌, ◌≤◌, Bool, true, false, ◌&&◌, eqb, leb, List, [], ◌∷◌, ◌++◌, length, Ok, All, Result, sym, refl, ap, ◌∙◌, subst, arith}
 use Rattle.std.proofs.lemmas.List.{append_assoc, append-nil, length-append}
+use Rattle.std.proofs.lemmas.List.Elements.{All-cons, All-head, All-tail}
 use Rattle.std.proofs.lemmas.Bool.{and_from, and_parts, cond-false, eqb-false}
 use Rattle.std.proofs.lemmas.Bool.Decides.{nat_tests}
 use Rattle.std.specs.List.{flat_map}
@@ -57,9 +58,9 @@ token_printable _ (single c no_word seen) = and_from (printable c) true (seen_pr
 
 spaced_printable : (ts : List (List ℕ)) → All Parted ts → every printable (spaced ts) ≡ true
 spaced_printable [] all = refl
-spaced_printable (w ∷ []) all = token_printable w all.0
+spaced_printable (w ∷ []) all = token_printable w (All-head Parted w [] all)
 spaced_printable (w ∷ v ∷ ws) all =
-    every_append printable w (32 ∷ spaced (v ∷ ws)) (token_printable w all.0) (spaced_printable (v ∷ ws) all.1)
+    every_append printable w (32 ∷ spaced (v ∷ ws)) (token_printable w (All-head Parted w (v ∷ ws) all)) (spaced_printable (v ∷ ws) (All-tail Parted w (v ∷ ws) all))
 
 -- ---- their tokens
 
@@ -69,15 +70,15 @@ token_front _ rest (single c no_word seen) stop = tokens_single c rest (eqb-fals
 
 spaced_tokens : (ts : List (List ℕ)) → All Parted ts → tokens (spaced ts) ≡ ts
 spaced_tokens [] all = refl
-spaced_tokens (w ∷ []) all = ap tokens (sym (append-nil w)) ∙ token_front w [] all.0 refl
+spaced_tokens (w ∷ []) all = ap tokens (sym (append-nil w)) ∙ token_front w [] (All-head Parted w [] all) refl
 spaced_tokens (w ∷ v ∷ ws) all =
-    token_front w (32 ∷ spaced (v ∷ ws)) all.0 refl
-    ∙ ap (λ us. w ∷ us) (tokens_space 32 (spaced (v ∷ ws)) refl ∙ spaced_tokens (v ∷ ws) all.1)
+    token_front w (32 ∷ spaced (v ∷ ws)) (All-head Parted w (v ∷ ws) all) refl
+    ∙ ap (λ us. w ∷ us) (tokens_space 32 (spaced (v ∷ ws)) refl ∙ spaced_tokens (v ∷ ws) (All-tail Parted w (v ∷ ws) all))
 
 -- ---- lines
 
 all_parted : (ts : List (List ℕ)) → Speaks ts → All Parted ts
-all_parted _ (speaks r all) = (run r, all)
+all_parted _ (speaks {w = w} {ws = ws} r all) = All-cons Parted w ws (run r) all
 
 word_speaks : (b : ℕ) (bs : List ℕ) → is_word_byte b ≡ true → says_nothing (b ∷ bs) ≡ false
 word_speaks b bs h = grind (arith, nat_tests)
@@ -106,10 +107,10 @@ text_of tss = flat_map line_text tss
 
 pub text_allowed : (tss : List (List (List ℕ))) → All Speaks tss → every allowed (text_of tss) ≡ true
 text_allowed [] all = refl
-text_allowed (ts ∷ tss) (s, all) =
+text_allowed (ts ∷ tss) all =
     every_append allowed (line_text ts) (text_of tss)
-    (every_append allowed (spaced ts) (10 ∷ []) (weaker printable allowed printable_allowed (spaced ts) (spaced_printable ts (all_parted ts s))) refl)
-    (text_allowed tss all)
+    (every_append allowed (spaced ts) (10 ∷ []) (weaker printable allowed printable_allowed (spaced ts) (spaced_printable ts (all_parted ts (All-head Speaks ts tss all)))) refl)
+    (text_allowed tss (All-tail Speaks ts tss all))
 
 -- each line has its newline
 pub text_long : (tss : List (List (List ℕ))) → length tss ≤ length (text_of tss)
@@ -128,8 +129,9 @@ module _ {S : Type 0} (Step : S → List (List ℕ) → Result S Refusal → Typ
 
   pub reads_text : (s t : S) (tss : List (List (List ℕ))) (p : ℕ) → Taken s tss t → All Speaks tss → Reads Step s (speaking (lines_from p (text_of tss))) (Ok t)
   reads_text s _ _ p none all = done
-  reads_text s t _ p (more {ts = ts} {tss = tss} s' step rest) (here, all) =
+  reads_text s t _ p (more {ts = ts} {tss = tss} s' step rest) all =
+      let here = All-head Speaks ts tss all in
       let L : List Line → Type 0 = λ ls. Reads Step s ls (Ok t) in
       let T : List (List ℕ) → Type 0 = λ us. Step s us (Ok s') in
       subst L (sym (first_line p ts (text_of tss) here))
-      (goes_on s' (subst T (sym (spaced_tokens ts (all_parted ts here))) step) (reads_text s' t tss (p + length (spaced ts) + 1) rest all))
+      (goes_on s' (subst T (sym (spaced_tokens ts (all_parted ts here))) step) (reads_text s' t tss (p + length (spaced ts) + 1) rest (All-tail Speaks ts tss all)))

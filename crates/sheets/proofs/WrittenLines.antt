@@ -1,7 +1,7 @@
 -- The lines of a gate sheet that is written out are taken one by one.
 use Rattle.std.proofs.Common.{◌≡◌, ℕ, ◌+◌, ◌^◌, ◌<◌, ◌≤◌, true, false, List, [], ◌∷◌, ◌++◌, map, length, get_or, is_some, Some, Ok, codes, decimal, All, Result, unwrap_or, sym, refl, ap, ◌∙◌, subst, ⊎_elim, arith}
 use Rattle.std.proofs.lemmas.Fmt.{decimal_nonempty}
-use Rattle.std.proofs.lemmas.List.Elements.{All-from_get_or, All-get_or}
+use Rattle.std.proofs.lemmas.List.Elements.{All-cons, All-from_get_or, All-from_recursion, All-get_or, All-head, All-nil, All-tail}
 use Rattle.std.proofs.lemmas.List.{append_assoc, append-nil, get_or_append_left, get_or_at, length-append, length-map, length_push, map_push}
 use Rattle.std.proofs.lemmas.Bool.{and_from, cases_order, or_from}
 use Rattle.std.proofs.lemmas.Bool.Decides.{nat_tests}
@@ -52,6 +52,13 @@ rules_with names gates outputs = record { symbols = numbered 0 names; gates = ga
 abbrev pub output_at : List Name → ℕ → Output
 output_at names s = output_of (name_at names s) s
 
+-- each argument of a gate is below the limit that all are below
+first_argument : (limit a : ℕ) (later : List ℕ) → All (λ s. s < limit) (a ∷ later) → a < limit
+first_argument limit a later all = All-head (λ s. s < limit) a later all
+
+second_argument : (limit a b : ℕ) → All (λ s. s < limit) (a ∷ b ∷ []) → b < limit
+second_argument limit a b all = first_argument limit b [] (All-tail (λ s. s < limit) a (b ∷ []) all)
+
 -- all signals have names
 module _ (ns : List Name) (named : (s : ℕ) → s < length ns → 0 < length (spelling (name_at ns s))) where
   abbrev word_at : (s : ℕ) → s < length ns → Word
@@ -68,20 +75,31 @@ module _ (ns : List Name) (named : (s : ℕ) → s < length ns → 0 < length (s
   form_few (binary k two a b) = omega arith
 
   form_parted : (limit : ℕ) → limit ≤ length ns → (f : GateForm ℕ) → All (λ s. s < limit) (form_arguments f) → All Parted (form_tokens (λ s. spelling (name_at ns s)) f)
-  form_parted limit inside (constant n) all = (run (kind_run Const), (run (number_run n.value n.small), tt))
-  form_parted limit inside (unary k one a) (p, _) = (run (kind_run k), (run (word_run a (omega arith)), tt))
-  form_parted limit inside (binary k two a b) (p, (q, _)) = (run (kind_run k), (run (word_run a (omega arith)), (run (word_run b (omega arith)), tt)))
+  form_parted limit inside (constant n) all =
+      All-from_recursion Parted (form_tokens (λ s. spelling (name_at ns s)) (constant n)) (run (kind_run Const), (run (number_run n.value n.small), tt))
+  form_parted limit inside (unary k one a) all =
+      let p = first_argument limit a [] all in
+      All-from_recursion Parted (form_tokens (λ s. spelling (name_at ns s)) (unary k one a)) (run (kind_run k), (run (word_run a (omega arith)), tt))
+  form_parted limit inside (binary k two a b) all =
+      let p = first_argument limit a (b ∷ []) all in
+      let q = second_argument limit a b all in
+      All-from_recursion Parted (form_tokens (λ s. spelling (name_at ns s)) (binary k two a b))
+      (run (kind_run k), (run (word_run a (omega arith)), (run (word_run b (omega arith)), tt)))
 
   pub gates_speak : (limit : ℕ) (gs : List NamedGate) → limit + length gs ≤ length ns → Earlier limit gs → All Speaks (map (gate_line ns) gs)
-  gates_speak limit [] inside earlier = tt
-  gates_speak limit (g ∷ gs) inside (here, later) = (
-    speaks (name_run g.name.name g.name.some) (single 61 refl refl, form_parted limit (omega arith) g.form here),
-    gates_speak (limit + 1) gs (omega arith) later,
-  )
+  gates_speak limit [] inside earlier = All-nil Speaks
+  gates_speak limit (g ∷ gs) inside (here, later) =
+      All-cons Speaks (gate_line ns g) (map (gate_line ns) gs)
+      (speaks (name_run g.name.name g.name.some) (All-cons Parted (61 ∷ []) (form_tokens (λ s. spelling (name_at ns s)) g.form) (single 61 refl refl) (form_parted limit (omega arith) g.form here)))
+      (gates_speak (limit + 1) gs (omega arith) later)
 
   pub outputs_speak : (ss : List ℕ) → All (λ s. s < length ns) ss → All Speaks (map (output_line ns) ss)
-  outputs_speak [] all = tt
-  outputs_speak (s ∷ ss) (here, all) = (speaks (record { some = omega arith; all = refl }) (run (word_run s here), tt), outputs_speak ss all)
+  outputs_speak [] all = All-nil Speaks
+  outputs_speak (s ∷ ss) all =
+      let here = first_argument (length ns) s ss all in
+      All-cons Speaks (output_line ns s) (map (output_line ns) ss)
+      (speaks (record { some = omega arith; all = refl }) (All-from_recursion Parted (spelling (name_at ns s) ∷ []) (run (word_run s here), tt)))
+      (outputs_speak ss (All-tail (λ s. s < length ns) s ss all))
 
   -- ss: the symbols so far, which know the signals below the limit
   module _ (ss : List Symbol) (limit : ℕ) (inside : limit ≤ length ns) (knows : (s : ℕ) → s < limit → signal_of ss (spelling (name_at ns s)) ≡ Some s) where
@@ -91,20 +109,21 @@ module _ (ns : List Name) (named : (s : ℕ) → s < length ns → 0 < length (s
     -- the right-hand side by which a gate is written
     worded : (f : GateForm ℕ) → All (λ s. s < limit) (form_arguments f) → GateSide
     worded (constant n) all = constant n
-    worded (unary k one a) (p, _) = unary k one (known_word a p)
-    worded (binary k two a b) (p, (q, _)) = binary k two (known_word a p) (known_word b q)
+    worded (unary k one a) all = unary k one (known_word a (first_argument limit a [] all))
+    worded (binary k two a b) all = binary k two (known_word a (first_argument limit a (b ∷ []) all)) (known_word b (second_argument limit a b all))
 
     worded_tokens : (f : GateForm ℕ) (all : All (λ s. s < limit) (form_arguments f)) → form_tokens (λ s. spelling (name_at ns s)) f ≡ gate_tokens (worded f all)
     unfolding worded
     worded_tokens (constant n) all = refl
-    worded_tokens (unary k one a) (p, _) = refl
-    worded_tokens (binary k two a b) (p, (q, _)) = refl
+    worded_tokens (unary k one a) all = refl
+    worded_tokens (binary k two a b) all = refl
 
     worded_known : (f : GateForm ℕ) (all : All (λ s. s < limit) (form_arguments f)) → all_known ss (gate_names (worded f all)) ≡ true
     unfolding worded
     worded_known (constant n) all = refl
-    worded_known (unary k one a) (p, _) = and_from _ _ (ap is_some (knows a p)) refl
-    worded_known (binary k two a b) (p, (q, _)) = and_from _ _ (ap is_some (knows a p)) (and_from _ _ (ap is_some (knows b q)) refl)
+    worded_known (unary k one a) all = and_from _ _ (ap is_some (knows a (first_argument limit a [] all))) refl
+    worded_known (binary k two a b) all =
+        and_from _ _ (ap is_some (knows a (first_argument limit a (b ∷ []) all))) (and_from _ _ (ap is_some (knows b (second_argument limit a b all))) refl)
 
     worded_signal : (s : ℕ) → s < limit → signal_or_zero ss (spelling (name_at ns s)) ≡ s
     worded_signal s lt = ap (λ o. unwrap_or o 0) (knows s lt)
@@ -112,8 +131,9 @@ module _ (ns : List Name) (named : (s : ℕ) → s < length ns → 0 < length (s
     worded_made : (f : GateForm ℕ) (all : All (λ s. s < limit) (form_arguments f)) → gate_made (λ w. signal_or_zero ss (written w)) (worded f all) ≡ gate_made (λ s. s) f
     unfolding worded
     worded_made (constant n) all = refl
-    worded_made (unary k one a) (p, _) = ap (one_argument k) (worded_signal a p)
-    worded_made (binary k two a b) (p, (q, _)) = λ i. two_arguments k (worded_signal a p i) (worded_signal b q i)
+    worded_made (unary k one a) all = ap (one_argument k) (worded_signal a (first_argument limit a [] all))
+    worded_made (binary k two a b) all =
+        λ i. two_arguments k (worded_signal a (first_argument limit a (b ∷ []) all) i) (worded_signal b (second_argument limit a b all) i)
 
   -- ---- line by line, over so many facts
 
@@ -165,7 +185,10 @@ module _ (ns : List Name) (named : (s : ℕ) → s < length ns → 0 < length (s
         let same : rules_with before made [] ≡ rules_with ns (made ++ []) [] = λ i. record { symbols = numbered 0 ((sym (append-nil before) ∙ is) i); gates = sym (append-nil made) i; outputs = [] } in
         let T : Rules → Type 0 = λ rules. Taken Step (rules_with before made []) [] rules in
         subst T same none
-    gates_taken before made (g ∷ gs) is next (here, later) (other, others) in_List in-limit in-names =
+    gates_taken before made (g ∷ gs) is next (here, later) none_is_out in_List in-limit in-names =
+        let NotOut : NamedGate → Type 0 = λ g. written g.name ≡ codes "out" → ⊥ in
+        let other = All-head NotOut g gs none_is_out in
+        let others = All-tail NotOut g gs none_is_out in
         let n = g.name.name in
         let names = map (λ h. h.name.name) gs in
         let more-names : length before + 1 ≡ length (before ++ (n ∷ [])) = sym (length_push before n) in
@@ -184,8 +207,10 @@ module _ (ns : List Name) (named : (s : ℕ) → s < length ns → 0 < length (s
 
     not_listed : (s : ℕ) → s < length ns → (done : List ℕ) → All (λ t. (t < length ns) × (t ≡ s → ⊥)) done → lists (map (output_at ns) done) (spelling (name_at ns s)) ≡ false
     not_listed s lt [] all = refl
-    not_listed s lt (t ∷ done) ((p, q), all) =
-        or_from _ _ (other_bytes (spelling (name_at ns t)) (spelling (name_at ns s)) (names_apart t s p lt q)) (not_listed s lt done all)
+    not_listed s lt (t ∷ done) all =
+        let P : ℕ → Type 0 = λ t. (t < length ns) × (t ≡ s → ⊥) in
+        let here = All-head P t done all in
+        or_from _ _ (other_bytes (spelling (name_at ns t)) (spelling (name_at ns s)) (names_apart t s here.0 lt here.1)) (not_listed s lt done (All-tail P t done all))
 
     module _ (made : List Gate) (ss : List ℕ) (signals : All (λ s. s < length ns) ss) (once : (i j : ℕ) → i < j → j < length ss → get_or ss i 0 ≡ get_or ss j 0 → ⊥) (fits : length ss ≤ room.outputs) where
       abbrev listing : List ℕ → Rules

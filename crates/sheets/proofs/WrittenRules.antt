@@ -1,7 +1,7 @@
 -- A gate sheet that is written out is read back.
 use Rattle.std.proofs.Common.{◌≡◌, ℕ, ◌+◌, ◌<◌, ◌≤◌, List, [], ◌∷◌, ◌++◌, map, length, Ok, codes, decimal, All, Result, sym, refl, ap, ◌∙◌, subst, arith}
 use Rattle.std.proofs.lemmas.Fmt.{decimal_digit}
-use Rattle.std.proofs.lemmas.List.Elements.{All-append, All-get_or}
+use Rattle.std.proofs.lemmas.List.Elements.{All-append, All-cons, All-get_or, All-nil}
 use Rattle.std.proofs.lemmas.List.{length-append, length-map}
 use Rattle.model.specs.Facts.{AllNamed}
 use Rattle.model.specs.Spelling.{spelling}
@@ -24,12 +24,13 @@ use Rattle.sheets.proofs.WrittenBack.{all_tail, line_cons}
 use Rattle.sheets.proofs.WrittenLines.{gates_speak, gates_taken, output_at, outputs_speak, outputs_taken, rules_with}
 
 facts_named : (fs : List Fact) → AllNamed fs → All (λ n. 0 < length (spelling n)) (map (λ f. f.name) fs)
-facts_named [] all = tt
-facts_named (f ∷ fs) all = (all 0 (omega arith), facts_named fs (all_tail f fs all))
+facts_named [] all = All-nil (λ n. 0 < length (spelling n))
+facts_named (f ∷ fs) all =
+    All-cons (λ n. 0 < length (spelling n)) f.name (map (λ f. f.name) fs) (all 0 (omega arith)) (facts_named fs (all_tail f fs all))
 
 gates_named : (gs : List NamedGate) → All (λ n. 0 < length (spelling n)) (map (λ g. g.name.name) gs)
-gates_named [] = tt
-gates_named (g ∷ gs) = (g.name.some, gates_named gs)
+gates_named [] = All-nil (λ n. 0 < length (spelling n))
+gates_named (g ∷ gs) = All-cons (λ n. 0 < length (spelling n)) g.name.name (map (λ g. g.name.name) gs) g.name.some (gates_named gs)
 
 module _ (facts : List Fact) (all : AllNamed facts) (room : Room) (gs : List NamedGate) (ss : List ℕ) (writable : Writable facts gs ss) (held : HeldBy room facts gs ss) where
   abbrev ns : List Name

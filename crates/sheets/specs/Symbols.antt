@@ -1,5 +1,5 @@
 -- The symbol table of a rule sheet: names, and the signals that they stand for.
-use Rattle.std.specs.Prelude.{◌≡◌, ℕ, ◌*◌, ◌%◌, ◌^◌, Bool, cond, List, [], ◌∷◌, is_some, Some, None, fold, Option, bit_xor, refl}
+use Rattle.std.specs.Prelude.{ℕ, ◌*◌, ◌%◌, ◌^◌, Bool, cond, List, [], ◌∷◌, is_some, Some, None, fold, Option, bit_xor, refl}
 use Rattle.std.proofs.Common.{sym, ap, ◌∙◌}
 use Rattle.std.proofs.lemmas.Slice.Eq.{bytes_eq-Decides}
 use Rattle.std.specs.Option.{unwrap_or}

@@ -1,4 +1,6 @@
 // Reads the sheets of the checker from lent text.
+#![tactic(auto)]
+
 mod assignment;
 mod counts;
 mod cursor;

@@ -17,13 +17,13 @@ spaced c = strip_prefix_is Decides-eqb c.in_ok-strip_prefix.field-0.now (32 ∷ 
 pub returns-in_err-strip_prefix : goal.returns-in_err-strip_prefix
 returns-in_err-strip_prefix c =
     rw c.from_residual.ensures
-    (λ v h. strip_prefix_is c.args.line.now c.args.mark.now None c.in_err-strip_prefix.ensures.cases (32 ∷ decimal v) h.1)
+    (λ v h. strip_prefix_is Decides-eqb c.args.line.now c.args.mark.now None c.in_err-strip_prefix.ensures.cases (32 ∷ decimal v) h.1)
 
 pub returns-in_err-digits : goal.returns-in_err-digits
 returns-in_err-digits c =
     let way = (goal.at.returns-in_err-digits c).In_ok-strip_prefix in
     rw c.from_residual-in_err-digits.ensures
-    (λ v h. strip_prefix_is c.in_ok-strip_prefix.field-0.now (32 ∷ []) None c.in_err-digits.ensures.cases (decimal v) (after_mark _ _ _ (marked way) v h))
+    (λ v h. strip_prefix_is Decides-eqb c.in_ok-strip_prefix.field-0.now (32 ∷ []) None c.in_err-digits.ensures.cases (decimal v) (after_mark _ _ _ (marked way) v h))
 
 pub returns-in_err-version : goal.returns-in_err-version
 returns-in_err-version c =

@@ -1,4 +1,4 @@
-use Rattle.std.proofs.Common.{◌-◌, List, length, Result}
+use Rattle.std.proofs.Common.{List, length, Result}
 use Rattle.model.specs.Orders.{facts_of}
 use Rattle.model.specs.declared.fact.Fact.{Fact}
 use Rattle.model.specs.declared.fault.Fault.{Fault}

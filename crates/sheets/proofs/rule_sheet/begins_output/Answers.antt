@@ -6,5 +6,6 @@ use Rattle.sheets.proofs.rule_sheet.begins_output.Goals as goal
 
 pub returns : goal.returns
 returns c =
-    let D : List ℕ → Type 0 = λ bs. Decides c.eq.result (bs ≡ codes "out") in
-    same_from_decides _ _ (subst D c.as_bytes.ensures (slice_eq-Decides Decides-eqb _ _ _ c.eq.ensures)) (bytes_eq-Decides (spelling c.args.name.now) (codes "out"))
+    let D : List ℕ → List ℕ → Type 0 = λ bs mark. Decides c.eq.result (bs ≡ mark) in
+    let same = slice_eq-Decides Decides-eqb _ _ _ c.eq.ensures in
+    same_from_decides _ _ (subst (D (spelling c.args.name.now)) c.as_slice.ensures (subst (λ bs. D bs c.as_slice.result.now) c.as_bytes.ensures same)) (bytes_eq-Decides (spelling c.args.name.now) (codes "out"))

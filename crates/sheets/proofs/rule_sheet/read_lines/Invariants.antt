@@ -1,6 +1,5 @@
 use Rattle.std.proofs.Common.{◌≡◌, length, Result}
 use Rattle.model.specs.declared.fault.Fault.{Fault}
-use Rattle.table.specs.Tables.{capacity_of}
 use Rattle.sheets.specs.Cursors.{following}
 use Rattle.sheets.specs.Drafts.{room_in, rules_of, SameLists, Tidy}
 use Rattle.sheets.specs.Lines.{speaking}

@@ -1,7 +1,6 @@
-use Rattle.std.proofs.Common.{◌≡◌, ℕ, ◌<◌, ◌≤◌, List, length, Ok, Err, Result, sym, refl, ap, ◌∙◌, subst, arith, rules}
+use Rattle.std.proofs.Common.{ℕ, List, Ok, Err, ◌∙◌, subst, arith, rules}
 use Rattle.std.proofs.lemmas.Result.{err_from_is_err_and}
 use Rattle.model.specs.Orders.{facts_of}
-use Rattle.model.specs.declared.fault.Fault.{Fault}
 use Rattle.sheets.specs.RuleSheets.{ReadsLists, room_of, RuleSheet}
 use Rattle.sheets.specs.Sheets.{Opens}
 use Rattle.sheets.proofs.RuleLines.{sheet_read}

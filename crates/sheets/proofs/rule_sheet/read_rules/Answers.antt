@@ -16,7 +16,7 @@ returns-then-is_err c =
     let said =
     left_empty _ _ _ _ _ _ _ (sym c.if-is_err.ensures.value) _ _
     (filled c.fill-then-is_err.ensures kept.gates c.empty-then-is_err.ensures)
-    (filled c.fill-then-is_err-2.ensures kept.outputs c.empty-then-is_err-2.ensures) c.read_lists-outcome.ensures
+    (filled c.fill-then-is_err-2.ensures kept.outputs c.empty-then-is_err-2.ensures.whole) c.read_lists-outcome.ensures
     in
     record {
       read = said;

@@ -1,10 +1,8 @@
 use Rattle.std.proofs.Common.{◌≡◌, ◌+◌, [], ◌∷◌, ◌++◌, length, take, Some, sym, ap, ◌∙◌, subst, arith}
 use Rattle.std.proofs.lemmas.List.{take_all}
-use Rattle.std.proofs.lemmas.Option.{slice_get-get_or}
 use Rattle.std.specs.List.{slice_get}
 use Rattle.model.specs.Orders.{facts_of}
 use Rattle.model.specs.Spelling.{spelling}
-use Rattle.model.specs.declared.fact.Fact.{Fact}
 use Rattle.table.specs.Tables.{capacity_of, keys_of}
 use Rattle.table.specs.declared.table.Table.{Table}
 use Rattle.sheets.specs.RuleSheets.{fact_symbols}

@@ -22,11 +22,11 @@ factor-returns-in_err-next_token t c =
     let p = err_from_is_err_and c.from_residual.result c.from_residual.ensures.1 in
     record { stays = said.stays; lent = record { gates = refl; outputs = refl }; read = rw (p.1, p.2) (said.next.0, no_factor_stuck (ahead c.args.self.now) said.next.1) }
 
-pub factor-returns-in_err-operand : goal.factor-returns-in_err-operand
-factor-returns-in_err-operand t c =
+pub factor-returns-in_err-operand-in-Not : goal.factor-returns-in_err-operand-in-Not
+factor-returns-in_err-operand-in-Not t c =
     let first = c.in_ok-next_token.ensures in
-    let said = c.in_err-operand.ensures in
-    let p = err_from_is_err_and c.from_residual-in_err-operand.result c.from_residual-in_err-operand.ensures.1 in
+    let said = c.in_err-operand-in-Not.ensures in
+    let p = err_from_is_err_and c.from_residual-in_err-operand-in-Not.result c.from_residual-in_err-operand-in-Not.ensures.1 in
     let is : ahead c.args.self.now ≡ (33 ∷ []) ∷ ahead c.next_token.new.self = subst (λ u. Next (ahead c.args.self.now) u (ahead c.next_token.new.self)) c.in-Not.is first.next in
     record {
       stays = same_then _ _ _ first.stays said.stays;
@@ -37,16 +37,16 @@ factor-returns-in_err-operand t c =
 pub factor-emit-requires : goal.factor-emit-requires
 factor-emit-requires t c =
     let first = c.in_ok-next_token.ensures in
-    let said = c.in_ok-operand.ensures in
+    let said = c.in_ok-operand-in-Not.ensures in
     let fewer = next_fewer _ _ _ first.next in
     let more = grown_factor _ _ _ _ _ _ said.read in
     omega (arith, c.requires.signals, fewer.short, more.gates)
 
-pub factor-returns-in_err-signal : goal.factor-returns-in_err-signal
-factor-returns-in_err-signal t c =
+pub factor-returns-in_err-signal-in-Open : goal.factor-returns-in_err-signal-in-Open
+factor-returns-in_err-signal-in-Open t c =
     let first = c.in_ok-next_token.ensures in
-    let said = c.in_err-signal.ensures in
-    let p = err_from_is_err_and c.from_residual-in_err-signal.result c.from_residual-in_err-signal.ensures.1 in
+    let said = c.in_err-signal-in-Open.ensures in
+    let p = err_from_is_err_and c.from_residual-in_err-signal-in-Open.result c.from_residual-in_err-signal-in-Open.ensures.1 in
     let inner = ahead c.next_token.new.self in
     let is : ahead c.args.self.now ≡ (40 ∷ []) ∷ inner = subst (λ u. Next (ahead c.args.self.now) u inner) c.in-Open.is first.next in
     record {
@@ -55,39 +55,39 @@ factor-returns-in_err-signal t c =
       read = rw (p.1, p.2) (said.read.0 ∙ ap (fault NoForm) first.stays.line, subst NoFactor (sym is) (no_bracketed inner (no_inside inner said.read.1)));
     }
 
-pub factor-returns-in_ok-operand : goal.factor-returns-in_ok-operand
-factor-returns-in_ok-operand t c =
+pub factor-returns-in_ok-operand-in-Not : goal.factor-returns-in_ok-operand-in-Not
+factor-returns-in_ok-operand-in-Not t c =
     let first = c.in_ok-next_token.ensures in
-    let said = c.in_ok-operand.ensures in
+    let said = c.in_ok-operand-in-Not.ensures in
     let put = c.emit.ensures in
     let is = subst (λ u. Next (ahead c.args.self.now) u (ahead c.next_token.new.self)) c.in-Not.is first.next in
     record {
       stays = same_then _ _ _ first.stays said.stays;
       lent = lists_then _ _ _ said.lent put.lent;
-      read = factor_not (keys_of c.args.names.now) c.args.draft.now (ahead c.args.self.now) c.in_ok-operand.operand c.emit.result (ahead c.next_token.new.self) (ahead c.factor.new.self) c.factor.new.draft c.emit.new.self
+      read = factor_not (keys_of c.args.names.now) c.args.draft.now (ahead c.args.self.now) c.in_ok-operand-in-Not.operand c.emit.result (ahead c.next_token.new.self) (ahead c.factor.new.self) c.factor.new.draft c.emit.new.self
           is said.read (put_as _ _ _ _ _ c.unary.ensures put.signal put.gates put.count put.unknown put.others);
     }
 
 pub factor-returns-in-Close : goal.factor-returns-in-Close
 factor-returns-in-Close t c =
     let first = c.in_ok-next_token.ensures in
-    let said = c.in_ok-signal.ensures in
+    let said = c.in_ok-signal-in-Open.ensures in
     let ss = keys_of c.args.names.now in
     let d = c.args.draft.now in
     let inner = ahead c.next_token.new.self in
     let rest = ahead c.formula.new.self in
     let is = subst (λ u. Next (ahead c.args.self.now) u inner) c.in-Open.is first.next in
-    let closed = subst (λ u. ReadFormula ss d inner c.in_ok-signal.signal u rest c.formula.new.draft) c.in-Close.is said.read.0 in
+    let closed = subst (λ u. ReadFormula ss d inner c.in_ok-signal-in-Open.signal u rest c.formula.new.draft) c.in-Close.is said.read.0 in
     record {
       stays = same_then _ _ _ first.stays said.stays;
       lent = said.lent;
-      read = factor_brackets ss d (ahead c.args.self.now) c.in_ok-signal.signal inner rest c.formula.new.draft is closed;
+      read = factor_brackets ss d (ahead c.args.self.now) c.in_ok-signal-in-Open.signal inner rest c.formula.new.draft is closed;
     }
 
 pub factor-returns-in_default-token : goal.factor-returns-in_default-token
 factor-returns-in_default-token t c =
     let first = c.in_ok-next_token.ensures in
-    let said = c.in_ok-signal.ensures in
+    let said = c.in_ok-signal-in-Open.ensures in
     let read = said.read.0 in
     let inner = ahead c.next_token.new.self in
     let is : ahead c.args.self.now ≡ (40 ∷ []) ∷ inner = subst (λ u. Next (ahead c.args.self.now) u inner) c.in-Open.is first.next in
@@ -97,7 +97,7 @@ factor-returns-in_default-token t c =
       lent = said.lent;
       read = (
         c.refuse.ensures ∙ ap (fault NoForm) both.line,
-        subst NoFactor (sym is) (no_bracketed inner (no_close inner read.formula read.after (ahead c.formula.new.self) c.in_ok-signal.token read.next said.read.1 c.in_default-token.not-Close read.tokens)),
+        subst NoFactor (sym is) (no_bracketed inner (no_close inner read.formula read.after (ahead c.formula.new.self) c.in_ok-signal-in-Open.token read.next said.read.1 c.in_default-token.not-Close read.tokens)),
       );
     }
 
@@ -248,9 +248,9 @@ part-term-requires-in-Plus t c =
     let enough = enough_plus ss c.args.left d ts c.requires.few c.requires.signals here.signal rest here.draft so_far in
     (search rules, (c.requires.sound, (enough.few, omega (arith, enough.signals))))
 
-pub part-returns-in_err-right : goal.part-returns-in_err-right
-part-returns-in_err-right t c =
-    let said = c.in_err-right.ensures in
+pub part-returns-in_err-right-in-Plus : goal.part-returns-in_err-right-in-Plus
+part-returns-in_err-right-in-Plus t c =
+    let said = c.in_err-right-in-Plus.ensures in
     let first = c.in_ok-signal.ensures in
     let ss = keys_of c.args.names.now in
     let d = c.args.draft.now in
@@ -260,7 +260,7 @@ part-returns-in_err-right t c =
     let so_far = subst (λ u. ReadPart ss d ts here.signal u rest here.draft) c.in-Plus.is (here.invariant.2 d ts (part_first ss d ts _ _ _ _ first.read.0)) in
     let is = so_far.tokens ∙ ap (λ us. spell_part so_far.part ++ us) so_far.next in
     let stays = same_then _ _ _ first.stays here.invariant.0 in
-    let p = err_from_is_err_and c.from_residual-in_err-right.result c.from_residual-in_err-right.ensures.1 in
+    let p = err_from_is_err_and c.from_residual-in_err-right-in-Plus.result c.from_residual-in_err-right-in-Plus.ensures.1 in
     record {
       stays = same_then _ _ _ stays said.stays;
       lent = lists_then _ _ _ (lists_then _ _ _ first.lent here.invariant.1) said.lent;
@@ -269,7 +269,7 @@ part-returns-in_err-right t c =
 
 pub part-emit-signal-requires : goal.part-emit-signal-requires
 part-emit-signal-requires t c =
-    let said = c.in_ok-right.ensures in
+    let said = c.in_ok-right-in-Plus.ensures in
     let first = c.in_ok-signal.ensures in
     let ss = keys_of c.args.names.now in
     let d = c.args.draft.now in
@@ -283,14 +283,14 @@ part-emit-signal-requires t c =
 
 pub part-loop-token-smaller-in-Plus : goal.part-loop-token-smaller-in-Plus
 part-loop-token-smaller-in-Plus t c =
-    let right = c.in_ok-right.ensures in
+    let right = c.in_ok-right-in-Plus.ensures in
     let more = grown_term _ _ _ _ _ _ _ right.read.0 in
     let lt : length (ahead c.term-in-Plus.new.self) < length (ahead c.loop-token.self) = more.shorter in
     lt
 
 pub part-loop-token-preserved-in-Plus : goal.part-loop-token-preserved-in-Plus
 part-loop-token-preserved-in-Plus t c =
-    let right = c.in_ok-right.ensures in
+    let right = c.in_ok-right-in-Plus.ensures in
     let put = c.emit-signal.ensures in
     let ss = keys_of c.args.names.now in
     let here = c.loop-token in (
@@ -298,7 +298,7 @@ part-loop-token-preserved-in-Plus t c =
       lists_then _ _ _ (lists_then _ _ _ here.invariant.1 right.lent) put.lent,
       λ d ts begun.
           let so_far = subst (λ u. ReadPart ss d ts here.signal u (ahead here.self) here.draft) c.in-Plus.is (here.invariant.2 d ts begun) in
-          part_plus ss d ts here.signal c.in_ok-right.right c.emit-signal.result (ahead here.self) (ahead c.term-in-Plus.new.self) c.in_ok-right.next here.draft c.term-in-Plus.new.draft c.emit-signal.new.self
+          part_plus ss d ts here.signal c.in_ok-right-in-Plus.right c.emit-signal.result (ahead here.self) (ahead c.term-in-Plus.new.self) c.in_ok-right-in-Plus.next here.draft c.term-in-Plus.new.draft c.emit-signal.new.self
           so_far right.read.0 (put_as _ _ _ _ _ c.binary.ensures put.signal put.gates put.count put.unknown put.others),
       right.read.1,
     )
@@ -315,9 +315,9 @@ part-term-requires-in-Minus t c =
     let enough = enough_minus ss c.args.left d ts c.requires.few c.requires.signals here.signal rest here.draft so_far in
     (search rules, (c.requires.sound, (enough.few, omega (arith, enough.signals))))
 
-pub part-returns-in_err-right-2 : goal.part-returns-in_err-right-2
-part-returns-in_err-right-2 t c =
-    let said = c.in_err-right-2.ensures in
+pub part-returns-in_err-right-in-Minus : goal.part-returns-in_err-right-in-Minus
+part-returns-in_err-right-in-Minus t c =
+    let said = c.in_err-right-in-Minus.ensures in
     let first = c.in_ok-signal.ensures in
     let ss = keys_of c.args.names.now in
     let d = c.args.draft.now in
@@ -327,7 +327,7 @@ part-returns-in_err-right-2 t c =
     let so_far = subst (λ u. ReadPart ss d ts here.signal u rest here.draft) c.in-Minus.is (here.invariant.2 d ts (part_first ss d ts _ _ _ _ first.read.0)) in
     let is = so_far.tokens ∙ ap (λ us. spell_part so_far.part ++ us) so_far.next in
     let stays = same_then _ _ _ first.stays here.invariant.0 in
-    let p = err_from_is_err_and c.from_residual-in_err-right-2.result c.from_residual-in_err-right-2.ensures.1 in
+    let p = err_from_is_err_and c.from_residual-in_err-right-in-Minus.result c.from_residual-in_err-right-in-Minus.ensures.1 in
     record {
       stays = same_then _ _ _ stays said.stays;
       lent = lists_then _ _ _ (lists_then _ _ _ first.lent here.invariant.1) said.lent;
@@ -336,7 +336,7 @@ part-returns-in_err-right-2 t c =
 
 pub part-emit-minus-requires : goal.part-emit-minus-requires
 part-emit-minus-requires t c =
-    let said = c.in_ok-right-2.ensures in
+    let said = c.in_ok-right-in-Minus.ensures in
     let first = c.in_ok-signal.ensures in
     let ss = keys_of c.args.names.now in
     let d = c.args.draft.now in
@@ -350,7 +350,7 @@ part-emit-minus-requires t c =
 
 pub part-emit-signal-requires-in-Minus : goal.part-emit-signal-requires-in-Minus
 part-emit-signal-requires-in-Minus t c =
-    let said = c.in_ok-right-2.ensures in
+    let said = c.in_ok-right-in-Minus.ensures in
     let first = c.in_ok-signal.ensures in
     let ss = keys_of c.args.names.now in
     let d = c.args.draft.now in
@@ -364,14 +364,14 @@ part-emit-signal-requires-in-Minus t c =
 
 pub part-loop-token-smaller : goal.part-loop-token-smaller
 part-loop-token-smaller t c =
-    let right = c.in_ok-right-2.ensures in
+    let right = c.in_ok-right-in-Minus.ensures in
     let more = grown_term _ _ _ _ _ _ _ right.read.0 in
     let lt : length (ahead c.term-in-Minus.new.self) < length (ahead c.loop-token.self) = more.shorter in
     lt
 
 pub part-loop-token-preserved : goal.part-loop-token-preserved
 part-loop-token-preserved t c =
-    let right = c.in_ok-right-2.ensures in
+    let right = c.in_ok-right-in-Minus.ensures in
     let turned = c.emit-minus.ensures in
     let put = c.emit-signal-in-Minus.ensures in
     let ss = keys_of c.args.names.now in
@@ -380,7 +380,7 @@ part-loop-token-preserved t c =
       lists_then _ _ _ (lists_then _ _ _ (lists_then _ _ _ here.invariant.1 right.lent) turned.lent) put.lent,
       λ d ts begun.
           let so_far = subst (λ u. ReadPart ss d ts here.signal u (ahead here.self) here.draft) c.in-Minus.is (here.invariant.2 d ts begun) in
-          part_minus ss d ts here.signal c.in_ok-right-2.right c.emit-signal-in-Minus.result (ahead here.self) (ahead c.term-in-Minus.new.self) c.in_ok-right-2.next here.draft c.term-in-Minus.new.draft c.emit-minus.new.self c.emit-minus.result c.emit-signal-in-Minus.new.self
+          part_minus ss d ts here.signal c.in_ok-right-in-Minus.right c.emit-signal-in-Minus.result (ahead here.self) (ahead c.term-in-Minus.new.self) c.in_ok-right-in-Minus.next here.draft c.term-in-Minus.new.draft c.emit-minus.new.self c.emit-minus.result c.emit-signal-in-Minus.new.self
           so_far right.read.0 (put_as _ _ _ _ _ c.unary.ensures turned.signal turned.gates turned.count turned.unknown turned.others) (put_as _ _ _ _ _ c.binary-in-Minus.ensures put.signal put.gates put.count put.unknown put.others),
       right.read.1,
     )

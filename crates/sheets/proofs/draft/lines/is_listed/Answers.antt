@@ -1,6 +1,5 @@
-use Rattle.std.proofs.Common.{◌≡◌, ◌+◌, Bool, true, false, ◌||◌, drop, sym, ap, ◌∙◌, arith}
+use Rattle.std.proofs.Common.{◌≡◌, ◌+◌, ◌||◌, drop, sym, ap, ◌∙◌, arith}
 use Rattle.std.proofs.lemmas.List.{at_drop_all}
-use Rattle.std.specs.Str.{bytes_eq}
 use Rattle.model.specs.Spelling.{spelling}
 use Rattle.sheets.specs.RuleSheets.{lists}
 use Rattle.sheets.proofs.Lookups.{lists_from, name_test}
