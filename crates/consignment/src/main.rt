@@ -1,5 +1,7 @@
 // Says what the rule sheet `sheet.txt` gives for one consignment, in yes/no: `order.txt` names the facts, and
 // `facts.txt` has a digit for each, top first. All three stand in the current folder.
+#![tactic(auto)]
+
 use arithmetic::{YesNo, check_net, evaluate, output_value};
 use model::{Gate, Order, Output};
 use programs::{Refused, text_of};

@@ -1,4 +1,6 @@
 // Lists the facts of the order sheet `order.txt` in the current folder, or says why it is refused.
+#![tactic(auto)]
+
 use model::Order;
 use programs::{Refused, text_of};
 use sheets::read_order;

@@ -1,5 +1,7 @@
 // Lists the gates and outputs of the rule sheet `sheet.txt` over the facts of `order.txt`, both in the current
 // folder, or says why one of them is refused.
+#![tactic(auto)]
+
 use model::{Gate, GateKind, Order, Output};
 use programs::{Refused, text_of};
 use sheets::{Counts, Notation, read_order, read_rules};

@@ -1,4 +1,6 @@
 // What the programs over the library share: files as texts, and how a refusal is told.
+#![tactic(auto)]
+
 mod files;
 mod refused;
 
