@@ -1,4 +1,6 @@
 // What the readers of sheets answer at the edges of the notation. The crate holds only tests.
+#![tactic(auto)]
+
 #[cfg(test)]
 mod formula_sheets;
 #[cfg(test)]

@@ -1,6 +1,6 @@
+// The numbered table at several kinds of keys. The crate holds only tests.
 #![tactic(auto)]
 
-// The numbered table at several kinds of keys. The crate holds only tests.
 #[cfg(test)]
 mod keys;
 #[cfg(test)]
