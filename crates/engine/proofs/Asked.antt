@@ -1,5 +1,5 @@
 -- The laws of the recipe, for any question.
-use Rattle.std.proofs.Common.{◌≡◌, ℕ, ◌<◌, ◌≤◌, max, Bool, List, length, Some, sym, refl, ap, ◌∙◌, subst, arith}
+use Rattle.std.proofs.Common.{◌≡◌, ℕ, ◌≤◌, max, Bool, List, length, Some, sym, refl, ◌∙◌, arith}
 use Rattle.model.specs.Rings.{Ring, Closed, Laws}
 use Rattle.model.specs.declared.decomposition.Decomposition.{Decomposition}
 use Rattle.model.specs.declared.node.Node.{Node}
@@ -8,10 +8,9 @@ use Rattle.storage.specs.declared.question.Answered.{Answered as Entry}
 use Rattle.storage.specs.declared.question.Question.{Question}
 use Rattle.storage.specs.declared.question.Question.TheVariants.{Sum, Minus, Times}
 use Rattle.kfdd.specs.Appending.{Extends}
-use Rattle.kfdd.specs.Joining.{Outcome, full, done, then}
-use Rattle.kfdd.specs.Outcomes.{Kept, Repeats}
+use Rattle.kfdd.specs.Joining.{Outcome, done}
 use Rattle.kfdd.specs.Recipe.{sum, minus, times}
-use Rattle.kfdd.specs.Reduced.{level, Held, Reduced}
+use Rattle.kfdd.specs.Reduced.{Reduced}
 use Rattle.kfdd.proofs.Answering.{Answered}
 use Rattle.kfdd.proofs.Appending.{held_after, level_after}
 use Rattle.kfdd.proofs.MinusAnswers.{minus_short}

@@ -1,5 +1,5 @@
 -- The number of turns that are left falls with each turn.
-use Rattle.std.proofs.Common.{◌≡◌, ℕ, zero, suc, ◌+◌, ◌-◌, ◌*◌, ◌<◌, ◌≤◌, List, [], ◌∷◌, length, sym, refl, ap, ◌∙◌, subst, mul-le-mul_right, arith}
+use Rattle.std.proofs.Common.{◌≡◌, ℕ, zero, suc, ◌+◌, ◌-◌, ◌*◌, ◌<◌, ◌≤◌, List, ◌∷◌, refl, ap, mul-le-mul_right, arith}
 use Rattle.model.specs.declared.root.Root.{Root}
 use Rattle.storage.specs.declared.question.Question.{Question}
 use Rattle.engine.specs.declared.frame.Frame.{Frame}
@@ -7,7 +7,7 @@ use Rattle.engine.specs.declared.frame.Stage.{Stage}
 use Rattle.engine.specs.declared.frame.Stage.TheVariants.{Low, LowProduct, HighHigh, LowHigh, HighLow, FirstTwo, High}
 use Rattle.engine.specs.declared.turn.Turn.TheVariants.{Ask, Answer}
 use Rattle.engine.specs.Stages.{parts_left, AsksOn}
-use Rattle.engine.specs.Underway.{floor, frame_turns, frames_turns, turns_for, turns_left}
+use Rattle.engine.specs.Underway.{floor, turns_for, turns_left}
 
 parts_few : (s : Stage) → parts_left s ≤ 5
 parts_few (Low high) = omega arith

@@ -1,18 +1,18 @@
 -- Where the outcome of a part leads, through what is left of the frames.
-use Rattle.std.proofs.Common.{◌≡◌, ℕ, suc, ◌<◌, ◌≤◌, List, [], ◌∷◌, length, sym, refl, ap, ◌∙◌, subst, arith}
+use Rattle.std.proofs.Common.{◌≡◌, ℕ, suc, ◌≤◌, List, [], ◌∷◌, length, sym, refl, subst, arith}
 use Rattle.model.specs.Rings.{Ring, Closed, Laws}
 use Rattle.model.specs.declared.decomposition.Decomposition.{Decomposition}
 use Rattle.model.specs.declared.node.Node.{Node}
 use Rattle.model.specs.declared.root.Root.{Root}
 use Rattle.kfdd.specs.Appending.{Extends}
-use Rattle.kfdd.specs.Joining.{Outcome, full, done, then}
+use Rattle.kfdd.specs.Joining.{Outcome, full, done}
 use Rattle.kfdd.specs.Reduced.{Reduced}
 use Rattle.kfdd.proofs.Appending.{extends_self, extends_trans}
 use Rattle.engine.specs.declared.frame.Frame.{Frame}
 use Rattle.engine.specs.Questions.{outcome, From}
-use Rattle.engine.specs.Stages.{left_at, left_of}
-use Rattle.engine.specs.Underway.{floor, FramesFit, LeadsTo, Opened}
-use Rattle.engine.proofs.Asked.{Grown, from_earlier}
+use Rattle.engine.specs.Stages.{left_of}
+use Rattle.engine.specs.Underway.{floor, FramesFit, LeadsTo}
+use Rattle.engine.proofs.Asked.{from_earlier}
 use Rattle.engine.proofs.Stepping.{stage_after, left_kept}
 
 module _ (R : Ring) (types : List Decomposition) where

@@ -1,5 +1,5 @@
 -- A question that is split comes to its first part and what is left of its frame then.
-use Rattle.std.proofs.Common.{◌≡◌, ℕ, suc, ◌<◌, ◌≤◌, ◌⊎◌, List, length, get_or, None, sym, refl, ap, ◌∙◌, subst, ap₂, inl, inr, arith}
+use Rattle.std.proofs.Common.{◌≡◌, ℕ, suc, ◌<◌, ◌≤◌, ◌⊎◌, List, length, get_or, None, sym, refl, ap, ◌∙◌, subst, inl, inr, arith}
 use Rattle.model.specs.Rings.{Ring, Closed, Laws}
 use Rattle.model.specs.declared.decomposition.Decomposition.{Decomposition}
 use Rattle.model.specs.declared.decomposition.Decomposition.TheVariants.{Shannon, PositiveDavio, NegativeDavio}
@@ -13,14 +13,14 @@ use Rattle.kfdd.specs.Recipe.{sum_at_once, minus_at_once, product_at_once, high_
 use Rattle.kfdd.specs.Reduced.{level, Held, Reduced}
 use Rattle.kfdd.specs.Splitting.{split, topmost}
 use Rattle.kfdd.proofs.MinusAnswers.{minus_unfolds}
-use Rattle.kfdd.proofs.Standing.{Halves, split_halves}
+use Rattle.kfdd.proofs.Standing.{split_halves}
 use Rattle.kfdd.proofs.Steps.{inner_known}
 use Rattle.kfdd.proofs.SumAnswers.{sum_unfolds, topmost_known as sum-known}
 use Rattle.kfdd.proofs.TimesAnswers.{times_unfolds, topmost_known as product-known}
 use Rattle.engine.specs.declared.frame.Frame.{Frame}
 use Rattle.engine.specs.declared.frame.Stage.{Stage}
 use Rattle.engine.specs.declared.frame.Stage.TheVariants.{Low, LowProduct}
-use Rattle.engine.specs.Questions.{outcome, From}
+use Rattle.engine.specs.Questions.{outcome}
 use Rattle.engine.specs.Stages.{after_high, after_first_two, after_high_low, after_low_high, after_high_high, after_low_product, Divides, PairFrom}
 
 -- going on in the same way

@@ -1,5 +1,5 @@
 -- What an engine answers depends on the nodes that it holds, its capacity and the calls alone.
-use Rattle.std.proofs.Common.{◌≡◌, ℕ, ◌<◌, Bool, List, [], ◌∷◌, ◌++◌, length, get_or, take, IfOk, Ok, Err, Result, sym, refl, ap, ◌∙◌, subst, ap₂, arith}
+use Rattle.std.proofs.Common.{◌≡◌, ℕ, ◌<◌, List, ◌∷◌, length, get_or, take, IfOk, Ok, Result, sym, refl, ap, ◌∙◌, subst, ap₂, arith}
 use Rattle.std.proofs.lemmas.List.{take_at}
 use Rattle.model.specs.Nets.{fact_value}
 use Rattle.model.specs.Rings.{Ring, Closed, Laws}
@@ -13,14 +13,13 @@ use Rattle.kfdd.specs.Appending.{Extends}
 use Rattle.kfdd.specs.Joining.{Outcome, full, done, fact_parts, fact_root}
 use Rattle.kfdd.specs.Outcomes.{Kept}
 use Rattle.kfdd.specs.Reduced.{Held, Reduced}
-use Rattle.kfdd.proofs.Answering.{Answered}
 use Rattle.kfdd.proofs.Appending.{extends_self}
 use Rattle.kfdd.proofs.Cutting.{reduced_front, reduced_take}
 use Rattle.kfdd.proofs.Joined.{fact_answered}
 use Rattle.kfdd.proofs.Outcomes.{answered_repeats, done_kept}
 use Rattle.engine.specs.Outcomes.{Comes, answers, fills, Joins, joined, overfull}
 use Rattle.engine.specs.Questions.{outcome, RootsHeld}
-use Rattle.engine.specs.Runs.{Alike, Call, Does, asks, joins, cuts, Runs, ends, then, Step, answered, cut_to, nodes_after}
+use Rattle.engine.specs.Runs.{Alike, Call, Does, asks, joins, cuts, Runs, ends, then, Step, answered, nodes_after}
 use Rattle.engine.proofs.Asked.{outcome_alike, outcome_kept}
 
 -- two fronts of one list that are as long as each other

@@ -1,5 +1,5 @@
 -- Each turn leaves what was underway underway.
-use Rattle.std.proofs.Common.{◌≡◌, ℕ, suc, ◌<◌, ◌≤◌, ◌⊎◌, List, [], ◌∷◌, length, Ok, Err, sym, refl, ap, ◌∙◌, subst, inl, inr, arith}
+use Rattle.std.proofs.Common.{◌≡◌, ℕ, suc, ◌<◌, ◌≤◌, List, ◌∷◌, length, Ok, Err, sym, refl, ap, ◌∙◌, subst, inl, inr, arith}
 use Rattle.model.specs.Refusals.{fault}
 use Rattle.model.specs.Rings.{Ring, Closed, Laws}
 use Rattle.model.specs.declared.decomposition.Decomposition.{Decomposition}
@@ -7,11 +7,10 @@ use Rattle.model.specs.declared.fault.Fault.{Fault}
 use Rattle.model.specs.declared.fault.Refusal.TheVariants.{StoreFull}
 use Rattle.model.specs.declared.node.Node.{Node}
 use Rattle.model.specs.declared.root.Root.{Root}
-use Rattle.storage.specs.Memos.{answered, Keeps, Member}
+use Rattle.storage.specs.Memos.{answered, Keeps}
 use Rattle.storage.specs.declared.question.Answered.{Answered}
 use Rattle.storage.specs.declared.question.Question.{Question}
-use Rattle.kfdd.specs.Appending.{Extends}
-use Rattle.kfdd.specs.Joining.{Outcome, full, done, then, join}
+use Rattle.kfdd.specs.Joining.{Outcome, full, done, join}
 use Rattle.kfdd.specs.RecipeLaws.{Joinable}
 use Rattle.kfdd.specs.Reduced.{Reduced}
 use Rattle.kfdd.proofs.Appending.{extends_self, extends_trans}
@@ -24,8 +23,8 @@ use Rattle.engine.specs.Frames.{NewestAdvances}
 use Rattle.engine.specs.Outcomes.{Joins, joined, overfull}
 use Rattle.engine.specs.Questions.{outcome, top_of, From, RootsFrom, RootsHeld}
 use Rattle.engine.specs.Soundness.{Remembered, Remembers}
-use Rattle.engine.specs.Stages.{left_of, AsksOn, Divides, HasBoth, StageFrom}
-use Rattle.engine.specs.Underway.{floor, Fits, FramesFit, LeadsTo, Opened, Overfull, Stops, TurnsTo, Underway}
+use Rattle.engine.specs.Stages.{AsksOn, Divides, HasBoth, StageFrom}
+use Rattle.engine.specs.Underway.{floor, Fits, LeadsTo, Opened, Stops, TurnsTo, Underway}
 use Rattle.engine.proofs.Asked.{Grown, from_earlier, outcome_again, outcome_kept, remembered_after, roots_held, roots_held_after, roots_top}
 use Rattle.engine.proofs.Counted.{answered_fewer, asks_fewer, joined_fewer, split_fewer}
 use Rattle.engine.proofs.Leading.{frames_after, frames_few, leads_as, leads_extends, leads_full}

@@ -1,4 +1,6 @@
 // The recipe run by a loop, over any store and any memo.
+#![tactic(auto)]
+
 mod dividing;
 mod engine;
 mod frame;

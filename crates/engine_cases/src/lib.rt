@@ -1,4 +1,6 @@
 // Tests of the engine: examples, and runs that are the same with every store and every memo.
+#![tactic(auto)]
+
 #[cfg(test)]
 mod examples;
 mod games;

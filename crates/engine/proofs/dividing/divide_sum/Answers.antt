@@ -12,10 +12,10 @@ divided g c =
     let ns = g.S.Store.nodes c.args.store.now in
     let is : c.min-fact.result ≡ topmost types ns c.args.a c.args.b = c.min-fact.ensures ∙ ap₂ min c.level.ensures c.level-2.ensures in
     sum_parts g.A.Arithmetic.ring laws.closed laws.laws types ns c.requires.reduced c.args.a c.args.b c.requires.first c.requires.second c.min-fact.result is
-    c.split-a-low.result c.split-b-low.result c.split-a-low.ensures c.split-b-low.ensures c.requires.long
+    c.split-a_low.result c.split-b_low.result c.split-a_low.ensures c.split-b_low.ensures c.requires.long
 
-pub overflow-cast-frame : goal.overflow-cast-frame
-overflow-cast-frame g c = omega (arith, (divided g c).known, types_few c.args.order.now)
+pub overflow_cast-frame : goal.overflow_cast-frame
+overflow_cast-frame g c = omega (arith, (divided g c).known, types_few c.args.order.now)
 
 pub returns : goal.returns
 returns g c = divided g c

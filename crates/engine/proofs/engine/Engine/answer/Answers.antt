@@ -1,4 +1,4 @@
-use Rattle.std.proofs.Common.{◌≡◌, ℕ, Ok, Err, sym, refl, ap, ◌∙◌}
+use Rattle.std.proofs.Common.{ℕ, Ok, Err, sym, ap, ◌∙◌}
 use mathlib.Core.Path.{subst₃}
 use Rattle.std.proofs.lemmas.Result.{err_from_is_err_and}
 use Rattle.model.specs.Refusals.{fault}
@@ -39,15 +39,15 @@ loop-turn-preserved g c =
     let self = c.loop-turn.self in
     let self' = c.resume.new.self in
     let inv = c.loop-turn.invariant in
-    let said = c.in-ok-turn.ensures in
+    let said = c.in_ok-turn-in-Answer.ensures in
     let w = resumed R start q (types_of self.order) (g.S.Store.capacity self.store) (g.S.Store.sound self.store) (g.M.Memo.sound self.memo) (g.S.Store.nodes self.store) (g.M.Memo.answers self.memo)
     (open_frames self.frames) c.loop-turn.turn inv.0 c.in-Answer.root c.in-Answer.is
     (types_of self'.order) (ap types_of said.order) (g.S.Store.capacity self'.store) said.capacity (g.S.Store.sound self'.store) (g.M.Memo.sound self'.memo)
     (g.S.Store.nodes self'.store) (g.M.Memo.answers self'.memo) (open_frames self'.frames) _ said.sound said.turns in
     (w, said.order ∙ inv.1, said.capacity ∙ inv.2, said.store ∙ inv.3, said.memo ∙ inv.4)
 
-pub returns-then-is-empty : goal.returns-then-is-empty
-returns-then-is-empty g c =
+pub returns-then-is_empty : goal.returns-then-is_empty
+returns-then-is_empty g c =
     let laws = g.met.A.Arithmetic in
     let R = g.A.Arithmetic.ring in
     let entry = c.args.self.now in
@@ -56,7 +56,7 @@ returns-then-is-empty g c =
     let inv = c.loop-turn.invariant in
     let came = ended R start c.args.question (types_of self.order) (g.S.Store.capacity self.store) (g.S.Store.sound self.store) (g.M.Memo.sound self.memo) (g.S.Store.nodes self.store) (g.M.Memo.answers self.memo)
     (open_frames self.frames) c.loop-turn.turn inv.0 c.in-Answer.root c.in-Answer.is (types_of entry.order) (ap types_of inv.1) (g.S.Store.capacity entry.store) inv.2
-    (sym c.if-is-empty.ensures) in
+    (sym c.if-is_empty.ensures) in
     let grows = outcome_grown R laws.closed laws.laws (types_of entry.order) start c.requires.sound.reduced c.args.question c.requires.held in
     let ask : ℕ → Outcome = λ n. outcome R (types_of entry.order) n start c.args.question in
     record {
@@ -70,8 +70,8 @@ returns-then-is-empty g c =
       memo = inv.4;
     }
 
-pub returns-in-err-turn : goal.returns-in-err-turn
-returns-in-err-turn g c =
+pub returns-in_err-turn-in-Answer : goal.returns-in_err-turn-in-Answer
+returns-in_err-turn-in-Answer g c =
     let laws = g.met.A.Arithmetic in
     let R = g.A.Arithmetic.ring in
     let entry = c.args.self.now in
@@ -79,8 +79,8 @@ returns-in-err-turn g c =
     let self = c.loop-turn.self in
     let self' = c.resume.new.self in
     let inv = c.loop-turn.invariant in
-    let said = c.in-err-turn.ensures in
-    let out = err_from_is_err_and c.from-residual.result c.from-residual.ensures.1 in
+    let said = c.in_err-turn-in-Answer.ensures in
+    let out = err_from_is_err_and c.from_residual.result c.from_residual.ensures.1 in
     let came = stopped R start c.args.question (types_of self.order) (g.S.Store.capacity self.store) (g.S.Store.sound self.store) (g.M.Memo.sound self.memo) (g.S.Store.nodes self.store) (g.M.Memo.answers self.memo)
     (open_frames self.frames) c.loop-turn.turn inv.0 c.in-Answer.root c.in-Answer.is (types_of entry.order) (ap types_of inv.1) (g.S.Store.capacity entry.store) inv.2
     laws.closed laws.laws c.requires.sound.reduced c.requires.held (g.S.Store.nodes self'.store) said.turns.1 in

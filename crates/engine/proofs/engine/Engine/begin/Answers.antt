@@ -1,8 +1,7 @@
-use Rattle.std.proofs.Common.{◌≡◌, ℕ, List, ◌∷◌, sym, refl, ◌∙◌, subst, arith}
+use Rattle.std.proofs.Common.{List, sym, refl, ◌∙◌, subst, arith}
 use Rattle.storage.specs.Memos.{answered}
-use Rattle.kfdd.specs.Joining.{done}
 use Rattle.engine.specs.Frames.{open_frames}
-use Rattle.engine.specs.Questions.{outcome, types_of}
+use Rattle.engine.specs.Questions.{types_of}
 use Rattle.engine.specs.Underway.{TurnsTo}
 use Rattle.engine.specs.declared.frame.Frame.{Frame}
 use Rattle.engine.specs.declared.turn.Turn.TheVariants.{Ask}
@@ -21,7 +20,7 @@ returns-in-Some g c =
     let r = c.in-Some.root in
     record {
       turns = answered_turn g.A.Arithmetic.ring laws.closed laws.laws types (g.S.Store.capacity self.store) ns c.requires.sound.reduced (open_frames self.frames) q c.requires.fits r
-          (λ n. outcome_short g.A.Arithmetic.ring types n ns q r (sym c.at-once.ensures ∙ c.in-Some.is));
+          (λ n. outcome_short g.A.Arithmetic.ring types n ns q r (sym c.at_once.ensures ∙ c.in-Some.is));
       order = refl;
       store = refl;
       memo = refl;

@@ -1,4 +1,4 @@
-use Rattle.std.proofs.Common.{◌≡◌, ◌<◌, length, get_or, sym, refl, ap, ◌∙◌, subst, arith}
+use Rattle.std.proofs.Common.{◌≡◌, ◌<◌, length, get_or, refl, ap, ◌∙◌, subst, arith}
 use Rattle.model.specs.declared.decomposition.Decomposition.TheVariants.{Shannon}
 use Rattle.model.specs.declared.root.Root.{Root}
 use Rattle.kfdd.specs.Joining.{fact_parts, fact_root}
@@ -10,8 +10,8 @@ use Rattle.engine.proofs.Reading.{types_few, types_long}
 use Rattle.engine.proofs.Running.{comes_grown, comes_held, fact_comes, fact_grown, fact_reduced}
 use Rattle.engine.proofs.engine.Engine.fact.Goals as goal
 
-pub overflow-cast-fact : goal.overflow-cast-fact
-overflow-cast-fact g c = let order = c.args.self.now.order in omega (arith, c.requires.known, types_long order, types_few order)
+pub overflow_cast-fact : goal.overflow_cast-fact
+overflow_cast-fact g c = let order = c.args.self.now.order in omega (arith, c.requires.known, types_long order, types_few order)
 
 pub returns : goal.returns
 returns g c =
@@ -27,7 +27,7 @@ returns g c =
     let r = c.join.result in
     let after = g.S.Store.nodes c.join.new.store in
     let said = c.join.ensures in
-    let parts : c.fact-parts-low.result ≡ fact_parts R (get_or types f Shannon) = c.fact-parts-low.ensures ∙ ap (fact_parts R) c.decomposition.ensures in
+    let parts : c.fact_parts-low.result ≡ fact_parts R (get_or types f Shannon) = c.fact_parts-low.ensures ∙ ap (fact_parts R) c.decomposition.ensures in
     let joined = subst (λ (p : Root × Root). Joins R types capacity ns f p.0 p.1 r after) parts said.joins in
     let came = fact_comes R laws.closed laws.laws types ns red f known capacity r after joined in
     let grows = fact_grown R laws.closed laws.laws types ns red f known in

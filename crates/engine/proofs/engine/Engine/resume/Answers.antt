@@ -1,4 +1,4 @@
-use Rattle.std.proofs.Common.{◌≡◌, List, sym, refl, ◌∙◌, subst, rules}
+use Rattle.std.proofs.Common.{List, sym, refl, subst, rules}
 use Rattle.std.proofs.lemmas.Result.{err_from_is_err_and}
 use Rattle.model.specs.declared.node.Node.{Node}
 use Rattle.kfdd.specs.Reduced.{Reduced}
@@ -25,8 +25,8 @@ returns-in-Ask g c =
       memo = refl;
     }
 
-pub returns-in-ok-root : goal.returns-in-ok-root
-returns-in-ok-root g c =
+pub returns-in_ok-root-in-Join : goal.returns-in_ok-root-in-Join
+returns-in_ok-root-in-Join g c =
     let laws = g.met.A.Arithmetic in
     let R = g.A.Arithmetic.ring in
     let self = c.args.self.now in
@@ -41,8 +41,8 @@ returns-in-ok-root g c =
     let low = c.in-Join.low in
     let high = c.in-Join.high in
     let ms = g.S.Store.nodes c.join.new.store in
-    let r = c.in-ok-root.root in
-    let said = c.in-ok-root.ensures in
+    let r = c.in_ok-root-in-Join.root in
+    let said = c.in_ok-root-in-Join.ensures in
     let off = popped R laws.closed laws.laws types capacity ns red fs (open_frames c.advance.new.self) rest answer p low high c.in-Join.ensures c.pop-frame.ensures in
     let came = joins_done R laws.closed laws.laws types capacity ns red p.fact low high r ms said.joins in
     let u = c.requires.underway in
@@ -61,8 +61,8 @@ returns-in-ok-root g c =
       memo = search rules;
     }
 
-pub returns-in-err-root : goal.returns-in-err-root
-returns-in-err-root g c =
+pub returns-in_err-root-in-Join : goal.returns-in_err-root-in-Join
+returns-in_err-root-in-Join g c =
     let laws = g.met.A.Arithmetic in
     let R = g.A.Arithmetic.ring in
     let self = c.args.self.now in
@@ -77,11 +77,11 @@ returns-in-err-root g c =
     let low = c.in-Join.low in
     let high = c.in-Join.high in
     let ms = g.S.Store.nodes c.join.new.store in
-    let e = c.in-err-root.field-0.0 in
-    let said = c.in-err-root.ensures in
+    let e = c.in_err-root-in-Join.field-0.0 in
+    let said = c.in_err-root-in-Join.ensures in
     let off = popped R laws.closed laws.laws types capacity ns red fs (open_frames c.advance.new.self) rest answer p low high c.in-Join.ensures c.pop-frame.ensures in
     let came = joins_full R laws.closed laws.laws types capacity ns red p.fact low high e ms said.joins in
-    let out = err_from_is_err_and c.from-residual.result c.from-residual.ensures.1 in
+    let out = err_from_is_err_and c.from_residual.result c.from_residual.ensures.1 in
     record {
       sound = record {
         stored = said.sound;

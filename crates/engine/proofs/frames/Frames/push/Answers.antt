@@ -1,5 +1,5 @@
-use Rattle.std.proofs.Common.{◌<◌, length, arith, rules}
-use Rattle.engine.proofs.Newest.{length_newest, pushed}
+use Rattle.std.proofs.Common.{rules}
+use Rattle.engine.proofs.Newest.{pushed}
 use Rattle.engine.proofs.frames.Frames.push.Goals as goal
 
 pub returns : goal.returns
