@@ -11,12 +11,9 @@ assigns_all x facts fits many = let p = pow_mono {i = 64} {j = facts} many in om
 pub fails_beyond : (x fact : ℕ) → Assigns fact x → holds x fact ≡ false
 fails_beyond x fact h = ap (λ n. eqb (n % 2) 1) (div-eq_of_lt h)
 
--- shifted by the number of facts, nothing is left exactly if there is no bit beyond
+-- shifted by the number of facts, nothing is left if there is no bit beyond
 pub assigns_shifted : (x facts : ℕ) → x / 2 ^ facts ≡ 0 → Assigns facts x
 assigns_shifted x facts e =
     let rest = mod-lt x (pow_pos facts) in
     let whole = ap (λ n. n * 2 ^ facts) e in
     omega (arith, div-add-mod' x (2 ^ facts))
-
-pub assigns_none : (x facts : ℕ) → (x / 2 ^ facts ≡ 0 → ⊥) → Assigns facts x → ⊥
-assigns_none x facts some h = some (div-eq_of_lt h)

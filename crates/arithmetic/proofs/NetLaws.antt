@@ -1,6 +1,6 @@
 -- The laws of the values of nets that pass the checks.
-use Rattle.std.proofs.Common.{◌≡◌, ℕ, zero, suc, ◌+◌, ◌-◌, ◌<◌, ◌≤◌, Bool, true, false, cond, ◌&&◌, T, ltb, List, length, get_or, Some, None, Ok, Err, Option, Result, sym, subst, ⊎_elim, arith}
-use Rattle.std.proofs.lemmas.Bool.{cases_lt, cond-true, cond-false, lt-ltb, le-ltb}
+use Rattle.std.proofs.Common.{◌≡◌, ℕ, zero, suc, ◌+◌, ◌-◌, ◌<◌, ◌≤◌, Bool, true, false, cond, ◌&&◌, T, ltb, List, length, get_or, Some, None, Ok, Err, Option, Result, sym, subst, ⊎_elim, below_more, arith}
+use Rattle.std.proofs.lemmas.Bool.{and_parts, cases_lt, cond-true, cond-false, lt-ltb, le-ltb}
 use Rattle.model.specs.Gates.{empty_gate}
 use Rattle.model.specs.Nets.{fact_value, gate_values, kind_of, operation, signal_value}
 use Rattle.model.specs.Rings.{Ring, Closed}
@@ -11,11 +11,11 @@ use Rattle.model.specs.declared.gate.GateKind.{GateKind}
 use Rattle.model.specs.declared.gate.GateKind.TheVariants.{Const, Sum, Times, Minus, Not, Or}
 use Rattle.arithmetic.specs.NetChecks.{gate_at, verdict_by_kind, Pass}
 use Rattle.arithmetic.specs.NetLaws.{NetLaws}
-use Rattle.arithmetic.proofs.NetValues.{both_earlier, each_gate, one_earlier, only_values}
+use Rattle.arithmetic.proofs.NetValues.{both_earlier, each_gate, one_earlier, only_values, passed}
 
-constant_known : (test : Bool) → ◌≡◌ {A = Result (Unit {0}) Refusal} (cond (test && true) (Ok tt) (Err BadConstant)) (Ok tt) → T test
-constant_known true e = tt
-constant_known false e = let z : ◌≡◌ {A = ℕ} 0 1 = cc in absurd (omega arith)
+-- a constant that passes is a value
+pub constant_known : (test : Bool) → ◌≡◌ {A = Result (Unit {0}) Refusal} (cond (test && true) (Ok tt) (Err BadConstant)) (Ok tt) → T test
+constant_known test e = subst T (sym (and_parts test true (passed BadConstant (Ok tt) (test && true) e).0).0) tt
 
 module _ (R : Ring) (closed : Closed R) (facts : ℕ) (x : ℕ → Bool) where
   abbrev V : ℕ → Type 0
@@ -58,13 +58,10 @@ module _ (R : Ring) (closed : Closed R) (facts : ℕ) (x : ℕ → Bool) where
     known_below zero le k h = absurd (omega arith)
     known_below (suc n) le k h =
         let below = known_below n (omega arith) in
-        ⊎_elim (below k)
-        (λ not-below.
-        let last : n ≡ k = omega arith in
-        let P : ℕ → Type 0 = λ j. V (get_or (gate_values R facts x gates) j 0) in
         let g = get_or gates n empty_gate in
-        subst P last (subst V (sym (each_gate R facts x gates pass n (omega arith))) (operation_known (gate_values R facts x gates) n below g (kind_of g.kind) (pass n (omega arith)))))
-        (cases_lt k n)
+        let next : V (get_or (gate_values R facts x gates) n 0) =
+        subst V (sym (each_gate R facts x gates pass n (omega arith))) (operation_known (gate_values R facts x gates) n below g (kind_of g.kind) (pass n (omega arith))) in
+        below_more (λ j. V (get_or (gate_values R facts x gates) j 0)) n below next k (omega arith)
 
 pub net_laws : (R : Ring) → Closed R → NetLaws R
 net_laws R closed facts x gates outputs checked = record {

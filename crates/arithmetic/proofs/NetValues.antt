@@ -1,5 +1,5 @@
 -- The value of each gate from its arguments', and that later gates change no earlier value.
-use Rattle.std.proofs.Common.{◌≡◌, ℕ, zero, suc, ◌+◌, ◌-◌, ◌<◌, ◌≤◌, Bool, true, false, cond, ◌&&◌, ltb, List, [], ◌∷◌, ◌++◌, length, get_or, take, drop, set, Some, None, Ok, Err, Option, Result, unwrap_or, sym, refl, ap, ◌∙◌, subst, ap₂, ⊎_elim, arith}
+use Rattle.std.proofs.Common.{◌≡◌, ℕ, zero, suc, ◌+◌, ◌-◌, ◌<◌, ◌≤◌, Bool, true, false, cond, ◌&&◌, ltb, List, [], ◌∷◌, ◌++◌, length, get_or, take, drop, set, Some, None, Ok, Err, Option, Result, unwrap_or, sym, refl, ap, ◌∙◌, ap₂, ⊎_elim, below_more, arith}
 use Rattle.std.proofs.lemmas.List.{append_assoc, drop_more, get_or_append_left, get_or_past, get_or_push, length_push, length-take-le, ext_get_or, get_or-take, length-take, set_at, take-append-drop, take_more}
 use Rattle.std.proofs.lemmas.Bool.{and_parts, cases_lt, cond-true, cond-false, lt-ltb, le-ltb, ltb-true}
 use Rattle.model.specs.Gates.{empty_gate}
@@ -15,18 +15,19 @@ use Rattle.arithmetic.specs.Evaluation.{value_of_signal}
 use Rattle.arithmetic.specs.NetChecks.{gate_at, gate_verdict, verdict_by_kind, Pass}
 use Rattle.arithmetic.specs.NetLaws.{GateByGate}
 
--- what a gate that passes has passed: N signals come before it
-module _ (N : ℕ) (rest : Result (Unit {0}) Refusal) where
-  passed : (test : Bool) → cond test rest (Err BadGate) ≡ Ok tt → (test ≡ true) × (rest ≡ Ok tt)
-  passed true e = (refl, e)
-  passed false e = let z : ◌≡◌ {A = ℕ} 0 1 = cc in absurd (omega arith)
+-- what passes has passed its test
+pub passed : (refusal : Refusal) (rest : Result (Unit {0}) Refusal) (test : Bool) → cond test rest (Err refusal) ≡ Ok tt → (test ≡ true) × (rest ≡ Ok tt)
+passed refusal rest true e = (refl, e)
+passed refusal rest false e = let z : ◌≡◌ {A = ℕ} 0 1 = cc in absurd (omega arith)
 
+-- a gate that passes: N signals come before it
+module _ (N : ℕ) (rest : Result (Unit {0}) Refusal) where
   pub one_earlier : (a : ℕ) → cond (every (λ s. ltb s N) (a ∷ [])) rest (Err BadGate) ≡ Ok tt → a < N
-  one_earlier a e = ltb-true a N (and_parts (ltb a N) true (passed (ltb a N && true) e).0).0
+  one_earlier a e = ltb-true a N (and_parts (ltb a N) true (passed BadGate rest (ltb a N && true) e).0).0
 
   pub both_earlier : (a b : ℕ) → cond (every (λ s. ltb s N) (a ∷ b ∷ [])) rest (Err BadGate) ≡ Ok tt → (a < N) × (b < N)
   both_earlier a b e =
-      let p = and_parts (ltb a N) (ltb b N && true) (passed (ltb a N && (ltb b N && true)) e).0 in
+      let p = and_parts (ltb a N) (ltb b N && true) (passed BadGate rest (ltb a N && (ltb b N && true)) e).0 in
       (ltb-true a N p.0, ltb-true b N (and_parts (ltb b N) true p.1).0)
 
 module _ (R : Ring) (facts : ℕ) (x : ℕ → Bool) where
@@ -138,12 +139,8 @@ module _ (R : Ring) (facts : ℕ) (x : ℕ → Bool) where
       only_below vs so zero le k h = absurd (omega arith)
       only_below vs so (suc n) le k h =
           let below = only_below vs so n (omega arith) in
-          ⊎_elim (below k)
-          (λ not-below.
-          let last : n ≡ k = omega arith in
-          let P : ℕ → Type 0 = λ j. get_or vs j 0 ≡ get_or (gate_values R facts x gates) j 0 in
-          subst P last (so n (omega arith) ∙ gate_by vs (gate_values R facts x gates) n below (get_or gates n empty_gate) (pass n (omega arith)) ∙ sym (each_gate n (omega arith))))
-          (cases_lt k n)
+          let next = so n (omega arith) ∙ gate_by vs (gate_values R facts x gates) n below (get_or gates n empty_gate) (pass n (omega arith)) ∙ sym (each_gate n (omega arith)) in
+          below_more (λ j. get_or vs j 0 ≡ get_or (gate_values R facts x gates) j 0) n below next k (omega arith)
 
       pub only_values : (vs : List ℕ) → length vs ≡ length gates → GateByGate R facts x gates vs → vs ≡ gate_values R facts x gates
       only_values vs long so = ext_get_or 0 vs (gate_values R facts x gates) (long ∙ sym (length_values gates)) (λ k h. only_below vs so (length gates) (omega arith) k (omega arith))

@@ -8,8 +8,8 @@ module _ (R : Ring) (closed : Closed R) (laws : Laws R) where
   V n = T (R.value n)
 
   -- two of the laws the other way round
-  zero_last : (a : ℕ) → V a → R.sum a R.zero ≡ a
-  zero_last a p = laws.sum_comm a R.zero p closed.zero_value ∙ laws.sum_zero a p
+  pub sum_zero_right : (a : ℕ) → V a → R.sum a R.zero ≡ a
+  sum_zero_right a p = laws.sum_comm a R.zero p closed.zero_value ∙ laws.sum_zero a p
 
   minus_first : (a : ℕ) → V a → R.sum (R.minus a) a ≡ R.zero
   minus_first a p = laws.sum_comm (R.minus a) a (closed.minus_value a p) p ∙ laws.sum_minus a p
@@ -23,7 +23,7 @@ module _ (R : Ring) (closed : Closed R) (laws : Laws R) where
 
   pub adds_nothing : (a h : ℕ) → V a → V h → R.sum a h ≡ a → h ≡ R.zero
   adds_nothing a h p q e =
-      cancel a h R.zero p q closed.zero_value (e ∙ sym (zero_last a p))
+      cancel a h R.zero p q closed.zero_value (e ∙ sym (sum_zero_right a p))
 
   pub product_zero : (a : ℕ) → V a → R.product R.zero a ≡ R.zero
   product_zero a p =

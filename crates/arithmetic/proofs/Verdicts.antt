@@ -1,5 +1,5 @@
 -- Checking in turn has one outcome, and so has checking a net.
-use Rattle.std.proofs.Common.{◌≡◌, ℕ, ◌<◌, Bool, true, false, cond, ltb, List, length, get_or, Ok, Err, Result, sym, refl, ap, ◌∙◌, inr, ⊎_elim, arith}
+use Rattle.std.proofs.Common.{◌≡◌, ℕ, ◌<◌, true, cond, ltb, List, length, get_or, Ok, Err, Result, sym, refl, ap, ◌∙◌, inr, ⊎_elim, arith}
 use Rattle.std.proofs.lemmas.List.{get_or-map}
 use Rattle.std.proofs.lemmas.Bool.{cases_order}
 use Rattle.model.specs.Refusals.{fault}
@@ -13,16 +13,10 @@ use Rattle.arithmetic.specs.NetChecks.{output_at, output_verdict, FirstRefused, 
 
 -- the verdict on the output at a place
 module _ (signals : ℕ) (outputs : List Output) (k : ℕ) (o : Output) (within : k < length outputs) (is : o ≡ get_or outputs k o) where
-  by_signal : (known : Bool) → known ≡ ltb o.signal signals → output_at signals outputs k ≡ cond known (Ok tt) (Err BadOutput)
-  by_signal known e =
+  pub output_passes : true ≡ ltb o.signal signals → output_at signals outputs k ≡ Ok tt
+  output_passes e =
       ap (output_verdict signals) (get_or-map (λ p. p.signal) outputs k o 0 within ∙ ap (λ p. p.signal) (sym is))
       ∙ ap (λ b. cond b (Ok tt) (Err BadOutput)) (sym e)
-
-  pub output_passes : true ≡ ltb o.signal signals → output_at signals outputs k ≡ Ok tt
-  output_passes = by_signal true
-
-  pub output_fails : false ≡ ltb o.signal signals → output_at signals outputs k ≡ Err BadOutput
-  output_fails = by_signal false
 
 module _ (verdict : ℕ → Result (Unit {0}) Refusal) (n : ℕ) where
   clash : (k : ℕ) (refusal : Refusal) → verdict k ≡ Ok tt → verdict k ≡ Err refusal → ⊥

@@ -2,14 +2,13 @@
 #![tactic(auto)]
 
 mod amounts;
-mod assignment;
-mod net_checks;
-mod net_values;
+mod net;
 mod ring;
+mod signals;
 mod yes_no;
 
 pub use amounts::Amounts;
-pub use net_checks::check_net;
-pub use net_values::{evaluate, output_value};
+pub use net::Net;
 pub use ring::Arithmetic;
+pub use signals::Signals;
 pub use yes_no::YesNo;

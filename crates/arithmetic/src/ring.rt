@@ -1,4 +1,4 @@
-ghost use Rattle.std.specs.Prelude.{◌≡◌};
+ghost use Rattle.std.specs.Prelude.{◌≡◌, ℕ};
 ghost use Rattle.model.specs.Rings.{Ring, Closed, Laws};
 
 /// What rule sheets are worked out in: which 32-bit numbers are values, and the operations on values.
@@ -9,16 +9,12 @@ pub trait Arithmetic: Copy {
 
     const ONE: u32;
 
+    ghost ZERO: { ℕ };
+
+    ghost ONE: { ℕ };
+
     // the values and what the operations answer
     ghost ring: { Ring };
-
-    /// Answers `ZERO`. A constant has no contract, so generic code asks here.
-    fn zero_value() -> u32
-        ensures { result ≡ ring.zero };
-
-    /// Answers `ONE`, for the same reason.
-    fn one_value() -> u32
-        ensures { result ≡ ring.one };
 
     fn is_value(number: u32) -> bool
         ensures { result ≡ ring.value number };
@@ -31,6 +27,11 @@ pub trait Arithmetic: Copy {
 
     fn minus(a: u32) -> u32
         ensures { result ≡ ring.minus a };
+
+    // the constants are the zero and the one
+    ghost zero_is: { ZERO ≡ ring.zero };
+
+    ghost one_is: { ONE ≡ ring.one };
 
     // the operations stay among the values
     ghost closed: { Closed ring };

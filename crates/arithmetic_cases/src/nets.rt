@@ -1,5 +1,5 @@
-use arithmetic::{Arithmetic, check_net, evaluate};
-use model::{Gate, Name, Output};
+use arithmetic::{Arithmetic, Net};
+use model::{Fault, Gate, Name, Output};
 
 // An output of a signal.
 pub fn output(signal: u32) -> Output {
@@ -9,24 +9,32 @@ pub fn output(signal: u32) -> Output {
     }
 }
 
-// The number and the place of the refusal of a net, or 0 and 0.
-pub fn checked<A: Arithmetic>(facts: usize, gates: &[Gate], outputs: &[Output]) -> (u8, usize) {
-    match check_net::<A>(facts, gates, outputs) {
-        Ok(()) => (0, 0),
-        Err(fault) => (fault.refusal.number(), fault.place),
-    }
+// What the checks of a net answer.
+pub fn checked<A: Arithmetic>(
+    facts: usize,
+    gates: &[Gate],
+    outputs: &[Output],
+) -> Result<(), Fault> {
+    let net = Net {
+        facts,
+        gates,
+        outputs,
+    };
+    net.check::<A>()
 }
 
-// The same where the net is worked out.
+// What working a net out answers.
 pub fn evaluated<A: Arithmetic>(
     facts: usize,
     gates: &[Gate],
     outputs: &[Output],
     assignment: u64,
     values: &mut [u32],
-) -> (u8, usize) {
-    match evaluate::<A>(facts, gates, outputs, assignment, values) {
-        Ok(()) => (0, 0),
-        Err(fault) => (fault.refusal.number(), fault.place),
-    }
+) -> Result<(), Fault> {
+    let net = Net {
+        facts,
+        gates,
+        outputs,
+    };
+    net.evaluate::<A>(assignment, values)
 }

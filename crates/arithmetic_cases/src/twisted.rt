@@ -1,3 +1,4 @@
+ghost use Rattle.std.specs.Prelude.{refl};
 ghost use Rattle.arithmetic_cases.specs.Twisted.{twisted};
 ghost use Rattle.arithmetic_cases.specs.TwistedLaws.{twisted_closed, twisted_laws};
 
@@ -5,7 +6,7 @@ use arithmetic::Arithmetic;
 
 // The values 8 to 15, as polynomials c + a x + b y over 0 and 1: 8 + c + 2 a + 4 b. A product of x and y is one,
 // and x and y have the square zero. So (x x) y is zero, and x (x y) is x.
-#[derive(Clone, Copy)]
+#[derive(Clone, Copy, Debug, PartialEq, Eq)]
 pub struct Twisted;
 
 impl Arithmetic for Twisted {
@@ -13,19 +14,19 @@ impl Arithmetic for Twisted {
 
     const ONE: u32 = 9;
 
+    ghost ZERO = { 8 };
+
+    ghost ONE = { 9 };
+
     ghost ring = { twisted };
+
+    ghost zero_is = { refl };
+
+    ghost one_is = { refl };
 
     ghost closed = { twisted_closed };
 
     ghost laws = { twisted_laws };
-
-    fn zero_value() -> u32 {
-        Self::ZERO
-    }
-
-    fn one_value() -> u32 {
-        Self::ONE
-    }
 
     fn is_value(number: u32) -> bool {
         number / 8 == 1

@@ -1,7 +1,7 @@
 use super::nets::{evaluated, output};
 use super::twisted::Twisted;
-use arithmetic::{Amounts, Arithmetic, YesNo, output_value};
-use model::{Gate, GateKind};
+use arithmetic::{Amounts, Arithmetic, Signals, YesNo};
+use model::{Gate, GateKind, Refusal};
 use std::test::Fail;
 
 // Every kind, over two facts and the gates before.
@@ -64,7 +64,7 @@ fn most_gates(rt: HostRuntime) -> Result<(), Fail> {
     let mut values = vec![in rt.alloc(); 7u32; 65537]?;
     assert_eq!(rt;
         evaluated::<YesNo>(0, &gates, &[], 0, &mut values),
-        (0, 0),
+        Ok(()),
         "65,536 gates"
     );
     assert_eq!(rt; values.get(65535).copied(), Some(1));
@@ -72,7 +72,7 @@ fn most_gates(rt: HostRuntime) -> Result<(), Fail> {
     gates.push(Gate::constant(0))?;
     assert_eq!(rt;
         evaluated::<YesNo>(0, &gates, &[], 0, &mut values),
-        (12, 0),
+        Err(Refusal::NetTooLarge.at(0)),
         "65,537 gates"
     );
     assert_eq!(rt;
@@ -89,27 +89,27 @@ fn refusals(rt: HostRuntime) {
     let gates = [Gate::constant(0), Gate::constant(1), Gate::constant(2)];
     assert_eq!(rt;
         evaluated::<YesNo>(2, &gates, &[], 4, &mut values),
-        (12, 0),
+        Err(Refusal::NetTooLarge.at(0)),
         "a short list comes first"
     );
     assert_eq!(rt;
         evaluated::<YesNo>(2, &gates[1..3], &[], 4, &mut values),
-        (14, 1),
+        Err(Refusal::BadConstant.at(1)),
         "the net comes before the assignment"
     );
     assert_eq!(rt;
         evaluated::<YesNo>(2, &gates[0..2], &[output(4)], 4, &mut values),
-        (15, 0)
+        Err(Refusal::BadOutput.at(0))
     );
     assert_eq!(rt;
         evaluated::<YesNo>(2, &gates[0..2], &[output(3)], 4, &mut values),
-        (18, 0),
+        Err(Refusal::BadAssignment.at(0)),
         "a bit beyond the facts"
     );
     assert_eq!(rt; values, [7, 7], "a refusal writes nothing");
     assert_eq!(rt;
         evaluated::<YesNo>(2, &gates[0..2], &[output(3)], 3, &mut values),
-        (0, 0)
+        Ok(())
     );
     assert_eq!(rt; values, [0, 1]);
 }
@@ -118,61 +118,67 @@ fn refusals(rt: HostRuntime) {
 fn assignments(rt: HostRuntime) {
     assert_eq!(rt;
         evaluated::<YesNo>(0, &[], &[], 0, &mut []),
-        (0, 0),
+        Ok(()),
         "no facts"
     );
     assert_eq!(rt;
         evaluated::<YesNo>(0, &[], &[], 1, &mut []),
-        (18, 0),
+        Err(Refusal::BadAssignment.at(0)),
         "a bit and no facts"
     );
     assert_eq!(rt;
         evaluated::<YesNo>(63, &[], &[], 1 << 63, &mut []),
-        (18, 0),
+        Err(Refusal::BadAssignment.at(0)),
         "the 64th bit"
     );
     assert_eq!(rt;
         evaluated::<YesNo>(64, &[], &[], u64::MAX, &mut []),
-        (0, 0),
+        Ok(()),
         "64 facts"
     );
     assert_eq!(rt;
         evaluated::<YesNo>(usize::MAX, &[], &[], 1, &mut []),
-        (0, 0),
+        Ok(()),
         "many facts"
     );
 }
 
 #[test]
 fn outputs(rt: HostRuntime) {
+    let signals = Signals {
+        facts: 2,
+        assignment: 2,
+        values: &[1, 5],
+    };
     assert_eq!(rt;
-        output_value::<YesNo>(2, 2, &[1, 5], &output(0)),
+        signals.output_value::<YesNo>(&output(0)),
         Some(0),
         "a fact that fails"
     );
     assert_eq!(rt;
-        output_value::<YesNo>(2, 2, &[1, 5], &output(1)),
+        signals.output_value::<YesNo>(&output(1)),
         Some(1),
         "one that holds"
     );
     assert_eq!(rt;
-        output_value::<Twisted>(2, 2, &[1, 5], &output(1)),
+        signals.output_value::<Twisted>(&output(1)),
         Some(9),
         "one is 9 here"
     );
     assert_eq!(rt;
-        output_value::<YesNo>(2, 2, &[1, 5], &output(3)),
+        signals.output_value::<YesNo>(&output(3)),
         Some(5),
         "a gate"
     );
     assert_eq!(rt;
-        output_value::<YesNo>(2, 2, &[1, 5], &output(4)),
+        signals.output_value::<YesNo>(&output(4)),
         None,
         "no signal"
     );
-    assert_eq!(rt;
-        output_value::<YesNo>(70, 0, &[], &output(69)),
-        Some(0),
-        "fact 69"
-    );
+    let many = Signals {
+        facts: 70,
+        assignment: 0,
+        values: &[],
+    };
+    assert_eq!(rt; many.output_value::<YesNo>(&output(69)), Some(0), "fact 69");
 }

@@ -1,9 +1,10 @@
 -- The laws of the recipe, for any question.
-use Rattle.std.proofs.Common.{◌≡◌, ℕ, ◌≤◌, max, Bool, List, length, Some, sym, refl, ◌∙◌, arith}
+use Rattle.std.proofs.Common.{◌≡◌, ℕ, ◌≤◌, max, Bool, List, length, Some, None, Option, MatchOption, sym, refl, ◌∙◌, subst, arith}
 use Rattle.model.specs.Rings.{Ring, Closed, Laws}
 use Rattle.model.specs.declared.decomposition.Decomposition.{Decomposition}
 use Rattle.model.specs.declared.node.Node.{Node}
 use Rattle.model.specs.declared.root.Root.{Root}
+use Rattle.storage.specs.Memos.{answered, Recalls}
 use Rattle.storage.specs.declared.question.Answered.{Answered as Entry}
 use Rattle.storage.specs.declared.question.Question.{Question}
 use Rattle.storage.specs.declared.question.Question.TheVariants.{Sum, Minus, Times}
@@ -18,7 +19,7 @@ use Rattle.kfdd.proofs.Outcomes.{done_kept, done_again, answered_repeats}
 use Rattle.kfdd.proofs.RecipeLaws.{sum_held, minus_held, times_held}
 use Rattle.kfdd.proofs.SumAnswers.{sum_short}
 use Rattle.kfdd.proofs.TimesAnswers.{times_short}
-use Rattle.engine.specs.Soundness.{Remembered}
+use Rattle.engine.specs.Soundness.{Remembered, Remembers}
 use Rattle.engine.specs.Questions.{outcome, shortcut, top_of, From, RootsFrom, RootsHeld}
 
 -- from ns nodes were only appended, the list is reduced, and it holds r, which has no fact before l
@@ -28,10 +29,16 @@ pub record Grown (R : Ring) (types : List Decomposition) (ns : List Node) (l : �
   pub root : From R types after l r
 
 module _ (R : Ring) (types : List Decomposition) where
-  pub outcome_short : (c : ℕ) (ns : List Node) (q : Question) (r : Root) → shortcut R q ≡ Some r → outcome R types c ns q ≡ done ns r
+  outcome_short : (c : ℕ) (ns : List Node) (q : Question) (r : Root) → shortcut R q ≡ Some r → outcome R types c ns q ≡ done ns r
   outcome_short c ns (Sum a b) r e = sum_short R types c (length types) ns a b r e
   outcome_short c ns (Minus a) r e = minus_short R types c (length types) ns a r e
   outcome_short c ns (Times a b) r e = times_short R types c (length types) ns a b r e
+
+  -- what is answered at once or from memory adds nothing
+  pub outcome_known : (ns : List Node) (es : List Entry) → Remembers R types ns es → (q : Question) (r : Root) (o found : Option Root) → o ≡ shortcut R q → found ≡ Some r
+      → MatchOption o (Recalls es q found) (λ x. found ≡ Some x) → (c : ℕ) → outcome R types c ns q ≡ done ns r
+  outcome_known ns es true_of q r (Some x) found short is said c = outcome_short c ns q r (sym short ∙ sym said ∙ is)
+  outcome_known ns es true_of q r None found short is said c = (true_of (answered q r) (subst (Recalls es q) is said)).repeats c
 
   module _ (ns ms : List Node) (ext : Extends ns ms) where
     pub from_after : (l : ℕ) (r : Root) → From R types ns l r → From R types ms l r

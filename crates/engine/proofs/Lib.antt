@@ -1,6 +1,5 @@
 pub mod Asked
 pub mod Counted
-pub mod Emptying
 pub mod Leading
 pub mod Newest
 pub mod Parts

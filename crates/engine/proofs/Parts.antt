@@ -1,5 +1,6 @@
 -- A question that is split comes to its first part and what is left of its frame then.
 use Rattle.std.proofs.Common.{◌≡◌, ℕ, suc, ◌<◌, ◌≤◌, ◌⊎◌, List, length, get_or, None, sym, refl, ap, ◌∙◌, subst, inl, inr, arith}
+use Rattle.std.proofs.lemmas.Option.{none-some}
 use Rattle.model.specs.Rings.{Ring, Closed, Laws}
 use Rattle.model.specs.declared.decomposition.Decomposition.{Decomposition}
 use Rattle.model.specs.declared.decomposition.Decomposition.TheVariants.{Shannon, PositiveDavio, NegativeDavio}
@@ -15,12 +16,12 @@ use Rattle.kfdd.specs.Splitting.{split, topmost}
 use Rattle.kfdd.proofs.MinusAnswers.{minus_unfolds}
 use Rattle.kfdd.proofs.Standing.{split_halves}
 use Rattle.kfdd.proofs.Steps.{inner_known}
-use Rattle.kfdd.proofs.SumAnswers.{sum_unfolds, topmost_known as sum-known}
-use Rattle.kfdd.proofs.TimesAnswers.{times_unfolds, topmost_known as product-known}
+use Rattle.kfdd.proofs.SumAnswers.{sum_unfolds, topmost_known as sum_known}
+use Rattle.kfdd.proofs.TimesAnswers.{times_unfolds, topmost_known as product_known}
 use Rattle.engine.specs.declared.frame.Frame.{Frame}
 use Rattle.engine.specs.declared.frame.Stage.{Stage}
 use Rattle.engine.specs.declared.frame.Stage.TheVariants.{Low, LowProduct}
-use Rattle.engine.specs.Questions.{outcome}
+use Rattle.engine.specs.Questions.{outcome, shortcut, top_of, RootsHeld}
 use Rattle.engine.specs.Stages.{after_high, after_first_two, after_high_low, after_low_high, after_high_high, after_low_product, Divides, PairFrom}
 
 -- going on in the same way
@@ -70,7 +71,7 @@ module _ (R : Ring) (closed : Closed R) (laws : Laws R) (types : List Decomposit
 
     sum_divides : sum_at_once R a b ≡ None → Divides R types ns (Sum a b) (frame_of (Sum a b) f (Low (Sum p.1 q.1))) (Sum p.0 q.0)
     sum_divides none =
-        let known = sum-known R closed laws types ns red a b ha hb none in
+        let known = sum_known R closed laws types ns red a b ha hb none in
         let sa = halves_from f known a ha (omega arith) in
         let sb = halves_from f known b hb (omega arith) in
         record {
@@ -83,7 +84,7 @@ module _ (R : Ring) (closed : Closed R) (laws : Laws R) (types : List Decomposit
 
     module _ (none : product_at_once R a b ≡ None) where
       known : f < length types
-      known = product-known R closed laws types ns red a b ha hb none
+      known = product_known R closed laws types ns red a b ha hb none
 
       sa : PairFrom R types ns (suc f) p
       sa = halves_from f known a ha (omega arith)
@@ -120,44 +121,33 @@ module _ (R : Ring) (closed : Closed R) (laws : Laws R) (types : List Decomposit
 
   minus_divides : (a : Root) → Held R (length ns) a → minus_at_once R a ≡ None
       → (let f = level types ns a in let p = split R types ns f a in Divides R types ns (Minus a) (frame_of (Minus a) f (Low (Minus p.1))) (Minus p.0))
-  minus_divides (Leaf v) h none = absurd (let z : ◌≡◌ {A = ℕ} 0 1 = cc in omega arith)
+  minus_divides (Leaf v) h none = absurd (none-some _ (sym none))
   minus_divides (Inner k) h none = minus_inner k h
 
-  -- the same, with the fact and the halves under names of their own
-  module _ (a b : Root) (ha : Held R (length ns) a) (hb : Held R (length ns) b) (f : ℕ) (is : f ≡ topmost types ns a b) (p q : Root × Root) (pa : p ≡ split R types ns f a) (qb : q ≡ split R types ns f b) where
-    ps : split R types ns (topmost types ns a b) a ≡ p
-    ps = ap (λ i. split R types ns i a) (sym is) ∙ sym pa
+  -- the same, with the question, the fact and the halves under names of their own
+  module _ (question : Question) (held : RootsHeld R ns question) (long : shortcut R question ≡ None) (f : ℕ) (top : f ≡ top_of R types ns question) where
+    -- what is so for a question that is put so, is so for the question
+    put_as : (named : Question) → question ≡ named → (stage : Stage) (first : Question)
+        → (RootsHeld R ns named → shortcut R named ≡ None → f ≡ top_of R types ns named → Divides R types ns named (frame_of named f stage) first)
+        → Divides R types ns question (frame_of question f stage) first
+    put_as named is stage first divides =
+        subst (λ (x : Question). RootsHeld R ns x → shortcut R x ≡ None → f ≡ top_of R types ns x → Divides R types ns x (frame_of x f stage) first) (sym is) divides held long top
 
-    qs : split R types ns (topmost types ns a b) b ≡ q
-    qs = ap (λ i. split R types ns i b) (sym is) ∙ sym qb
+    module _ (a b : Root) (p q : Root × Root) (pa : p ≡ split R types ns f a) (qb : q ≡ split R types ns f b) where
+      pub sum_parts : question ≡ Sum a b → Divides R types ns question (frame_of question f (Low (Sum p.1 q.1))) (Sum p.0 q.0)
+      sum_parts is = put_as (Sum a b) is _ _ (λ held long top. rw (pa, qb, top) (sum_divides a b held.0 held.1 long))
 
-    renamed : (op : Root → Root → Question) (stage : Root × Root → Root × Root → Stage)
-        → Divides R types ns (op a b) (frame_of (op a b) (topmost types ns a b) (stage (split R types ns (topmost types ns a b) a) (split R types ns (topmost types ns a b) b)))
-        (op (split R types ns (topmost types ns a b) a).0 (split R types ns (topmost types ns a b) b).0)
-        → Divides R types ns (op a b) (frame_of (op a b) f (stage p q)) (op p.0 q.0)
-    renamed op stage d =
-        let p₀ = split R types ns (topmost types ns a b) a in
-        subst (λ (i : ℕ). Divides R types ns (op a b) (frame_of (op a b) i (stage p q)) (op p.0 q.0)) (sym is)
-        (subst (λ (x : Root × Root). Divides R types ns (op a b) (frame_of (op a b) (topmost types ns a b) (stage x q)) (op x.0 q.0)) ps
-        (subst (λ (y : Root × Root). Divides R types ns (op a b) (frame_of (op a b) (topmost types ns a b) (stage p₀ y)) (op p₀.0 y.0)) qs d))
+      module _ (is : question ≡ Times a b) (t : Decomposition) (known : t ≡ get_or types f Shannon) where
+        pub product_parts_shannon : t ≡ Shannon → Divides R types ns question (frame_of question f (Low (Times p.1 q.1))) (Times p.0 q.0)
+        product_parts_shannon e =
+            put_as (Times a b) is _ _ (λ held long top.
+            rw (pa, qb, top) (times_divides_shannon a b held.0 held.1 long (ap (λ i. get_or types i Shannon) (sym top) ∙ sym known ∙ e)))
 
-    pub sum_parts : sum_at_once R a b ≡ None → Divides R types ns (Sum a b) (frame_of (Sum a b) f (Low (Sum p.1 q.1))) (Sum p.0 q.0)
-    sum_parts none = renamed Sum (λ x y. Low (Sum x.1 y.1)) (sum_divides a b ha hb none)
+        pub product_parts_davio : (t ≡ PositiveDavio) ⊎ (t ≡ NegativeDavio) → Divides R types ns question (frame_of question f (LowProduct p q)) (Times p.0 q.0)
+        product_parts_davio e =
+            put_as (Times a b) is _ _ (λ held long top.
+            rw (pa, qb, top) (times_divides_davio a b held.0 held.1 long
+            (subst (λ x. (x ≡ PositiveDavio) ⊎ (x ≡ NegativeDavio)) (known ∙ ap (λ i. get_or types i Shannon) top) e)))
 
-    typed : (t : Decomposition) → get_or types f Shannon ≡ t → get_or types (topmost types ns a b) Shannon ≡ t
-    typed t e = ap (λ i. get_or types i Shannon) (sym is) ∙ e
-
-    pub product_parts_shannon : product_at_once R a b ≡ None → get_or types f Shannon ≡ Shannon → Divides R types ns (Times a b) (frame_of (Times a b) f (Low (Times p.1 q.1))) (Times p.0 q.0)
-    product_parts_shannon none e = renamed Times (λ x y. Low (Times x.1 y.1)) (times_divides_shannon a b ha hb none (typed Shannon e))
-
-    pub product_parts_davio : product_at_once R a b ≡ None → (get_or types f Shannon ≡ PositiveDavio) ⊎ (get_or types f Shannon ≡ NegativeDavio)
-        → Divides R types ns (Times a b) (frame_of (Times a b) f (LowProduct p q)) (Times p.0 q.0)
-    product_parts_davio none (inl e) = renamed Times LowProduct (times_divides_davio a b ha hb none (inl (typed PositiveDavio e)))
-    product_parts_davio none (inr e) = renamed Times LowProduct (times_divides_davio a b ha hb none (inr (typed NegativeDavio e)))
-
-  pub minus_parts : (a : Root) → Held R (length ns) a → (f : ℕ) → f ≡ level types ns a → (p : Root × Root) → p ≡ split R types ns f a → minus_at_once R a ≡ None
-      → Divides R types ns (Minus a) (frame_of (Minus a) f (Low (Minus p.1))) (Minus p.0)
-  minus_parts a h f is p pa none =
-      let ps = ap (λ i. split R types ns i a) (sym is) ∙ sym pa in
-      subst (λ (i : ℕ). Divides R types ns (Minus a) (frame_of (Minus a) i (Low (Minus p.1))) (Minus p.0)) (sym is)
-      (subst (λ (x : Root × Root). Divides R types ns (Minus a) (frame_of (Minus a) (level types ns a) (Low (Minus x.1))) (Minus x.0)) ps (minus_divides a h none))
+    pub minus_parts : (a : Root) (p : Root × Root) → p ≡ split R types ns f a → question ≡ Minus a → Divides R types ns question (frame_of question f (Low (Minus p.1))) (Minus p.0)
+    minus_parts a p pa is = put_as (Minus a) is _ _ (λ held long top. rw (pa, top) (minus_divides a held long))

@@ -1,31 +1,22 @@
--- Reading nodes and types at a place.
-use Rattle.std.proofs.Common.{◌≡◌, ℕ, zero, suc, ◌<◌, ◌≤◌, List, [], ◌∷◌, map, length, get_or, Some, None, sym, ap, ◌∙◌, ⊎_elim, arith}
-use Rattle.std.proofs.lemmas.List.{length-map, length-take, get_or-map, get_or_past}
-use Rattle.std.proofs.lemmas.Option.{slice_get-get_or, slice_get_past as nth_past}
-use Rattle.std.proofs.lemmas.Bool.{cases_lt}
+-- Reading the type of a fact.
+use Rattle.std.proofs.Common.{◌≡◌, ℕ, ◌≤◌, List, map, length, get_or, Some, None, Option, sym, ap, ◌∙◌, arith}
+use Rattle.std.proofs.lemmas.List.{length-map, length-take}
+use Rattle.std.proofs.lemmas.Option.{slice_get-map, unwrap_or-slice_get}
 use Rattle.std.specs.List.{slice_get}
+use Rattle.std.specs.Option.{option_map, unwrap_or, MatchOption}
 use Rattle.model.specs.Orders.{facts_of}
 use Rattle.model.specs.declared.order.Order.{Order}
 use Rattle.engine.specs.Questions.{types_of}
 
-outside : {X : Type 0} (xs : List X) (i : ℕ) → slice_get xs i ≡ None → length xs ≤ i
-outside [] i is = omega arith
-outside (x ∷ xs) zero is = absurd (let z : ◌≡◌ {A = ℕ} 0 1 = cc in omega arith)
-outside (x ∷ xs) (suc i) is = omega (arith, outside xs i is)
+module _ {X Y : Type 0} (f : X → Y) (d : Y) where
+  chosen : (o : Option X) (y : Y) → MatchOption o (y ≡ d) (λ x. y ≡ f x) → y ≡ unwrap_or (option_map f o) d
+  chosen None y is = is
+  chosen (Some x) y is = is
 
-module _ {X : Type 0} (xs : List X) (i : ℕ) where
-  pub inside : (x : X) → slice_get xs i ≡ Some x → i < length xs
-  inside x is = ⊎_elim (λ lt. lt) (λ past. absurd (let none = nth_past xs i past in let z : ◌≡◌ {A = ℕ} 0 1 = cc in omega arith)) (cases_lt i (length xs))
-
-  pub read_some : (x d : X) → slice_get xs i ≡ Some x → x ≡ get_or xs i d
-  read_some x d is = let here = slice_get-get_or xs i d (inside x is) in cc
-
-  module _ {Y : Type 0} (f : X → Y) (d : Y) where
-    pub map_some : (x : X) → slice_get xs i ≡ Some x → f x ≡ get_or (map f xs) i d
-    map_some x is = sym (get_or-map f xs i x d (inside x is) ∙ ap f (sym (read_some x x is)))
-
-    pub map_none : slice_get xs i ≡ None → d ≡ get_or (map f xs) i d
-    map_none is = sym (get_or_past (map f xs) i d (omega (arith, length-map xs f, outside xs i is)))
+  -- what is at a place, under a function, or a default where nothing is
+  pub read_map : (xs : List X) (i : ℕ) (o : Option X) (y : Y) → o ≡ slice_get xs i → MatchOption o (y ≡ d) (λ x. y ≡ f x) → y ≡ get_or (map f xs) i d
+  read_map xs i o y is said =
+      chosen o y said ∙ ap (λ o. unwrap_or (option_map f o) d) is ∙ ap (λ o. unwrap_or o d) (sym (slice_get-map f xs i)) ∙ unwrap_or-slice_get (map f xs) i d
 
 -- each fact has a type
 pub types_long : (order : Order) → length (types_of order) ≡ length (facts_of order)

@@ -4,7 +4,7 @@ use Rattle.std.proofs.lemmas.List.{take_at}
 use Rattle.model.specs.Nets.{fact_value}
 use Rattle.model.specs.Rings.{Ring, Closed, Laws}
 use Rattle.model.specs.declared.decomposition.Decomposition.{Decomposition}
-use Rattle.model.specs.declared.decomposition.Decomposition.TheVariants.{Shannon}
+use Rattle.model.specs.declared.decomposition.Decomposition.TheVariants.{Shannon, PositiveDavio, NegativeDavio}
 use Rattle.model.specs.declared.fault.Fault.{Fault}
 use Rattle.model.specs.declared.node.Node.{Node}
 use Rattle.model.specs.declared.root.Root.{Root}
@@ -12,6 +12,7 @@ use Rattle.storage.specs.declared.question.Question.{Question}
 use Rattle.kfdd.specs.Appending.{Extends}
 use Rattle.kfdd.specs.Joining.{Outcome, full, done, fact_parts, fact_root}
 use Rattle.kfdd.specs.Outcomes.{Kept}
+use Rattle.kfdd.specs.RecipeLaws.{Joinable}
 use Rattle.kfdd.specs.Reduced.{Held, Reduced}
 use Rattle.kfdd.proofs.Appending.{extends_self}
 use Rattle.kfdd.proofs.Cutting.{reduced_front, reduced_take}
@@ -70,6 +71,12 @@ module _ (R : Ring) (closed : Closed R) (laws : Laws R) (types : List Decomposit
 
     pub fact_grown : (c : ℕ) (ms : List Node) (r : Root) → fact_root R types c ns f ≡ done ms r → Extends ns ms × Held R (length ms) r
     fact_grown c ms r e = let k = fact_kept c ms r e in (k.appended, k.held)
+
+    -- the low and the high of a fact can be joined
+    pub fact_joinable : (t : Decomposition) → Joinable R types ns f (fact_parts R t).0 (fact_parts R t).1
+    fact_joinable Shannon = record { known = known; low_held = closed.zero_value; high_held = closed.one_value; low_later = known; high_later = known }
+    fact_joinable PositiveDavio = record { known = known; low_held = closed.zero_value; high_held = closed.one_value; low_later = known; high_later = known }
+    fact_joinable NegativeDavio = record { known = known; low_held = closed.one_value; high_held = closed.minus_value R.one closed.one_value; low_later = known; high_later = known }
 
     module _ (capacity : ℕ) where
       abbrev parts : Root × Root

@@ -17,15 +17,13 @@ use Rattle.kfdd.proofs.Appending.{extends_self, extends_trans}
 use Rattle.kfdd.proofs.Outcomes.{more_room}
 use Rattle.kfdd.proofs.RecipeLaws.{join_held, join_kept}
 use Rattle.engine.specs.declared.frame.Frame.{Frame}
-use Rattle.engine.specs.declared.frame.Next.TheVariants as Next
 use Rattle.engine.specs.declared.turn.Turn.TheVariants.{Ask, Answer}
-use Rattle.engine.specs.Frames.{NewestAdvances}
 use Rattle.engine.specs.Outcomes.{Joins, joined, overfull}
 use Rattle.engine.specs.Questions.{outcome, top_of, From, RootsFrom, RootsHeld}
 use Rattle.engine.specs.Soundness.{Remembered, Remembers}
 use Rattle.engine.specs.Stages.{AsksOn, Divides, HasBoth, StageFrom}
 use Rattle.engine.specs.Underway.{floor, Fits, LeadsTo, Opened, Stops, TurnsTo, Underway}
-use Rattle.engine.proofs.Asked.{Grown, from_earlier, outcome_again, outcome_kept, remembered_after, roots_held, roots_held_after, roots_top}
+use Rattle.engine.proofs.Asked.{Grown, from_earlier, outcome_again, outcome_kept, roots_held, roots_held_after, roots_top}
 use Rattle.engine.proofs.Counted.{answered_fewer, asks_fewer, joined_fewer, split_fewer}
 use Rattle.engine.proofs.Leading.{frames_after, frames_few, leads_as, leads_extends, leads_full}
 
@@ -117,7 +115,7 @@ module _ (R : Ring) (closed : Closed R) (laws : Laws R) (types : List Decomposit
       roots : From R types ns (suc f.fact) low × From R types ns (suc f.fact) high
       roots = b.roots R types ns (suc f.fact) fit.frames.0.roots fit.asked
 
-      joinable : Joinable R types ns f.fact low high
+      pub joinable : Joinable R types ns f.fact low high
       joinable = record { known = fit.frames.0.known; low_held = roots.0.held; high_held = roots.1.held; low_later = roots.0.later; high_later = roots.1.later }
 
       -- what the frame's question comes to, where it was asked
@@ -133,9 +131,6 @@ module _ (R : Ring) (closed : Closed R) (laws : Laws R) (types : List Decomposit
             let k = join_kept R closed laws types ns red capacity f.fact low high joinable ms r is in
             record { extends = k.appended; reduced = k.reduced; root = record { held = k.held; later = k.later } }
 
-        pub joined_reduced : Reduced R types ms
-        joined_reduced = kept.reduced
-
         pub joined_turn : TurnsTo R types capacity ns (f ∷ fs) (Answer answer) ms fs (Answer r)
         joined_turn =
             record {
@@ -150,7 +145,7 @@ module _ (R : Ring) (closed : Closed R) (laws : Laws R) (types : List Decomposit
             }
 
         -- the memo is told a question that was asked before, and repeats
-        pub told : (start : List Node) (first : Question) → Underway R types capacity start first ns (f ∷ fs) (Answer answer) → Remembered R types ms (answered f.question r)
+        told : (start : List Node) (first : Question) → Underway R types capacity start first ns (f ∷ fs) (Answer answer) → Remembered R types ms (answered f.question r)
         told start first u =
             let was = u.leads capacity (omega arith) in
             let before = was.0 in
@@ -162,9 +157,9 @@ module _ (R : Ring) (closed : Closed R) (laws : Laws R) (types : List Decomposit
             }
 
         pub joined_remembers : (start : List Node) (first : Question) → Underway R types capacity start first ns (f ∷ fs) (Answer answer)
-            → (es es' : List Answered) → Remembers R types ns es → Keeps es f.question r es' → Remembers R types ms es'
+            → (es es' : List Answered) → Remembers R types ms es → Keeps es f.question r es' → Remembers R types ms es'
         joined_remembers start first u es es' old kept-only e member = elim (kept-only e member) [
-          | inl was ↦ remembered_after R closed laws types ns red ms kept.extends e (old e was)
+          | inl was ↦ old e was
           | inr new ↦ subst (Remembered R types ms) (sym new) (told start first u)
         ]
 
@@ -182,43 +177,7 @@ module _ (R : Ring) (closed : Closed R) (laws : Laws R) (types : List Decomposit
                 (subst (λ (result : Outcome). LeadsTo R types c result (f ∷ fs) (done ns answer)) came (u.leads c (omega arith)));
           }
 
-  -- ---- the same, as the frames and the store tell it
-
-  -- the frame that was advanced to its end and taken off
-  pub popped : (fs fs' rest : List Frame) (answer : Root) (p : Frame) (low high : Root) → NewestAdvances fs answer (Next.Join low high) fs' → fs' ≡ p ∷ rest → (fs ≡ p ∷ rest) × HasBoth p answer p low high
-  popped fs fs' rest answer p low high a is =
-      let moved : a.advanced ≡ p = cc a.is in
-      let same : a.newest ≡ p = sym a.advances.same ∙ moved in
-      let older : a.older ≡ rest = cc a.is in
-      let both = subst (λ (x : Frame). HasBoth a.newest answer x low high) moved a.advances in
-      (cc a.was, subst (λ (x : Frame). HasBoth x answer p low high) same both)
-
-  pub asked_on : (fs fs' : List Frame) (answer : Root) (q : Question) → Fits R types ns fs (Answer answer) → NewestAdvances fs answer (Next.Ask q) fs' → TurnsTo R types capacity ns fs (Answer answer) ns fs' (Ask q)
-  asked_on fs fs' answer q fit a =
-      let here = asks_turn a.newest a.older answer (subst (λ (x : List Frame). Fits R types ns x (Answer answer)) a.was fit) a.advanced q a.advances in
-      subst (λ (x : List Frame). TurnsTo R types capacity ns x (Answer answer) ns fs' (Ask q)) (sym a.was)
-      (subst (λ (x : List Frame). TurnsTo R types capacity ns (a.newest ∷ a.older) (Answer answer) ns x (Ask q)) (sym a.is) here)
-
-  module _ (fs rest : List Frame) (answer : Root) (p : Frame) (low high : Root) (is : fs ≡ p ∷ rest) (b : HasBoth p answer p low high) (fit : Fits R types ns fs (Answer answer)) where
-    fits_there : Fits R types ns (p ∷ rest) (Answer answer)
-    fits_there = subst (λ (x : List Frame). Fits R types ns x (Answer answer)) is fit
-
-    underway_there : (start : List Node) (first : Question) → Underway R types capacity start first ns fs (Answer answer) → Underway R types capacity start first ns (p ∷ rest) (Answer answer)
-    underway_there start first = subst (λ (x : List Frame). Underway R types capacity start first ns x (Answer answer)) is
-
-    module _ (ms : List Node) (r : Root) (came : join R types capacity ns p.fact low high ≡ done ms r) where
-      pub finished_turn : TurnsTo R types capacity ns fs (Answer answer) ms rest (Answer r)
-      finished_turn = subst (λ (x : List Frame). TurnsTo R types capacity ns x (Answer answer) ms rest (Answer r)) (sym is) (joined_turn p rest answer fits_there p low high b ms r came)
-
-      pub finished_reduced : Reduced R types ms
-      finished_reduced = joined_reduced p rest answer fits_there p low high b ms r came
-
-      pub finished_remembers : (start : List Node) (first : Question) → Underway R types capacity start first ns fs (Answer answer)
-          → (es es' : List Answered) → Remembers R types ns es → Keeps es p.question r es' → Remembers R types ms es'
-      finished_remembers start first u = joined_remembers p rest answer fits_there p low high b ms r came start first (underway_there start first u)
-
-    pub full_stops : join R types capacity ns p.fact low high ≡ full → length ns ≡ capacity → Stops R types capacity ns fs (Answer answer) ns
-    full_stops came long start first u = full_stop p rest answer fits_there p low high b came long start first (underway_there start first u)
+  -- ---- the same, as the store tells it
 
   module _ (f : ℕ) (low high : Root) where
     pub joins_done : (r : Root) (after : List Node) → Joins R types capacity ns f low high (Ok r) after → join R types capacity ns f low high ≡ done after r

@@ -1,19 +1,16 @@
 -- What the loop keeps from turn to turn.
-use Rattle.std.proofs.Common.{◌≡◌, ℕ, suc, true, eqb, List, [], ◌∷◌, length, Ok, Err, sym, refl, subst, subst₂, arith}
-use Rattle.std.proofs.lemmas.Bool.{eqb-true}
+use Rattle.std.proofs.Common.{◌≡◌, ℕ, suc, List, [], Ok, Err, sym, subst, subst₂, arith}
 use Rattle.model.specs.Refusals.{fault}
 use Rattle.model.specs.Rings.{Ring, Closed, Laws}
 use Rattle.model.specs.declared.decomposition.Decomposition.{Decomposition}
 use Rattle.model.specs.declared.fault.Refusal.TheVariants.{StoreFull}
 use Rattle.model.specs.declared.node.Node.{Node}
 use Rattle.model.specs.declared.root.Root.{Root}
-use Rattle.storage.specs.declared.question.Answered.{Answered}
 use Rattle.storage.specs.declared.question.Question.{Question}
 use Rattle.storage.specs.declared.question.Question.TheVariants.{Minus}
 use Rattle.kfdd.specs.Reduced.{Reduced}
 use Rattle.engine.specs.Outcomes.{Comes, answers, fills}
 use Rattle.engine.specs.Questions.{outcome, RootsHeld}
-use Rattle.engine.specs.Soundness.{SoundOver}
 use Rattle.engine.specs.Underway.{Fits, Stops, TurnsTo, Underway}
 use Rattle.engine.specs.declared.frame.Frame.{Frame}
 use Rattle.engine.specs.declared.turn.Turn.{Turn}
@@ -25,45 +22,34 @@ abbrev pub first_of : Turn → Question
 first_of (Ask q) = q
 first_of (Answer r) = Minus r
 
-pub record Working (R : Ring) (types : List Decomposition) (capacity : ℕ) (store memo : Type 0) (ns : List Node) (es : List Answered) (fs : List Frame) (turn : Turn) (start : List Node) (first : Question) : Type 0 where
-  pub sound : SoundOver R types store memo ns es
+pub record Working (R : Ring) (types : List Decomposition) (capacity : ℕ) (ns : List Node) (fs : List Frame) (turn : Turn) (start : List Node) (first : Question) : Type 0 where
   pub fits : Fits R types ns fs turn
   pub underway : Underway R types capacity start first ns fs turn
 
-none_left : (fs : List Frame) → eqb (length fs) 0 ≡ true → fs ≡ []
-none_left [] e = refl
-none_left (f ∷ fs) e = absurd (omega (arith, eqb-true (length (f ∷ fs)) 0 e))
-
 module _ (R : Ring) (start : List Node) (first : Question) where
-  module _ (types : List Decomposition) (capacity : ℕ) (store memo : Type 0) (ns : List Node) (es : List Answered) (fs : List Frame) (turn : Turn)
-      (w : Working R types capacity store memo ns es fs turn start first) where
-    -- the same turn under another name
-    as_turn : (turn' : Turn) → turn ≡ turn' → Working R types capacity store memo ns es fs turn' start first
-    as_turn turn' is = subst (λ (t : Turn). Working R types capacity store memo ns es fs t start first) is w
+  module _ (types : List Decomposition) (capacity : ℕ) (ns : List Node) (fs : List Frame) (turn : Turn)
+      (w : Working R types capacity ns fs turn start first) where
+    -- the same turn, under another name
+    as_turn : (turn' : Turn) → turn ≡ turn' → Working R types capacity ns fs turn' start first
+    as_turn turn' is = subst (λ (t : Turn). Working R types capacity ns fs t start first) is w
 
     -- a question was begun; the nodes and the memo are as they were
-    pub began : (q : Question) → turn ≡ Ask q → (fs' : List Frame) (turn' : Turn) → TurnsTo R types capacity ns fs (Ask q) ns fs' turn' → Working R types capacity store memo ns es fs' turn' start first
-    began q is fs' turn' t = let at-q = as_turn (Ask q) is in record { sound = w.sound; fits = t.fits; underway = t.goes_on start first at-q.underway }
+    pub began : (q : Question) → turn ≡ Ask q → (fs' : List Frame) (turn' : Turn) → TurnsTo R types capacity ns fs (Ask q) ns fs' turn' → Working R types capacity ns fs' turn' start first
+    began q is fs' turn' t = record { fits = t.fits; underway = t.goes_on start first (as_turn (Ask q) is).underway }
 
     module _ (r : Root) (is : turn ≡ Answer r) where
-      at_r : Working R types capacity store memo ns es fs (Answer r) start first
-      at_r = as_turn (Answer r) is
-
       -- an answer was handed on
-      pub resumed : (types' : List Decomposition) → types' ≡ types → (capacity' : ℕ) → capacity' ≡ capacity → (store' memo' : Type 0) (ns' : List Node) (es' : List Answered) (fs' : List Frame) (turn' : Turn)
-          → SoundOver R types' store' memo' ns' es' → TurnsTo R types capacity ns fs (Answer r) ns' fs' turn' → Working R types' capacity' store' memo' ns' es' fs' turn' start first
-      resumed types' same-types capacity' same-capacity store' memo' ns' es' fs' turn' so t =
-          record {
-            sound = so;
-            fits = subst (λ ts. Fits R ts ns' fs' turn') (sym same-types) t.fits;
-            underway = subst₂ (λ (ts : List Decomposition) (c : ℕ). Underway R ts c start first ns' fs' turn') (sym same-types) (sym same-capacity) (t.goes_on start first at_r.underway);
-          }
+      pub resumed : (types' : List Decomposition) → types' ≡ types → (capacity' : ℕ) → capacity' ≡ capacity → (ns' : List Node) (fs' : List Frame) (turn' : Turn)
+          → TurnsTo R types capacity ns fs (Answer r) ns' fs' turn' → Working R types' capacity' ns' fs' turn' start first
+      resumed types' same-types capacity' same-capacity ns' fs' turn' t =
+          let u = t.goes_on start first (as_turn (Answer r) is).underway in
+          subst₂ (λ (ts : List Decomposition) (c : ℕ). Working R ts c ns' fs' turn' start first) (sym same-types) (sym same-capacity) (record { fits = t.fits; underway = u })
 
       module _ (types₀ : List Decomposition) (same-types : types ≡ types₀) (capacity₀ : ℕ) (same-capacity : capacity ≡ capacity₀) where
         -- no question waits: the first one is answered
-        pub ended : eqb (length fs) 0 ≡ true → Comes (λ c. outcome R types₀ c start first) capacity₀ start (Ok r) ns
+        pub ended : fs ≡ [] → Comes (λ c. outcome R types₀ c start first) capacity₀ start (Ok r) ns
         ended none =
-            let u = subst (λ (list : List Frame). Underway R types capacity start first ns list (Answer r)) (none_left fs none) at_r.underway in
+            let u = subst (λ (list : List Frame). Underway R types capacity start first ns list (Answer r)) none (as_turn (Answer r) is).underway in
             subst₂ (λ (ts : List Decomposition) (n : ℕ). Comes (λ c. outcome R ts c start first) n start (Ok r) ns) same-types same-capacity
             (answers (sym (u.leads capacity (omega arith))))
 
@@ -71,7 +57,7 @@ module _ (R : Ring) (start : List Node) (first : Question) where
         pub stopped : Closed R → Laws R → Reduced R types₀ start → RootsHeld R start first → (ns' : List Node) → Stops R types capacity ns fs (Answer r) ns'
             → Comes (λ c. outcome R types₀ c start first) capacity₀ start (Err (fault StoreFull 0)) ns'
         stopped closed laws red held ns' stop =
-            let o = stop start first at_r.underway in
+            let o = stop start first (as_turn (Answer r) is).underway in
             let e = outcome_enough R closed laws types start (subst (λ ts. Reduced R ts start) (sym same-types) red) first held (suc capacity) in
             subst₂ (λ (ts : List Decomposition) (n : ℕ). Comes (λ c. outcome R ts c start first) n start (Err (fault StoreFull 0)) ns') same-types same-capacity
             (fills o.full o.grown o.long e.0 e.2 e.3 e.4 (o.front e.0 e.2 e.3 e.1 e.4))

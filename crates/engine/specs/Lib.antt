@@ -1,7 +1,9 @@
 pub mod Frames
+pub mod OneProof
 pub mod Outcomes
 pub mod Questions
 pub mod Runs
 pub mod Soundness
 pub mod Stages
+pub mod Staying
 pub mod Underway

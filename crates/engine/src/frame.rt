@@ -7,6 +7,7 @@ use storage::Question;
 
 /// How far a half-answered question has come: which of its parts is asked, and what is known and
 /// left by then.
+// A value, and no closure that goes on: a frame is of fixed size and lies in fixed memory.
 #[derive(Clone, Copy)]
 pub(crate) enum Stage {
     /// The low is asked. The high is the answer to this question.
@@ -80,5 +81,17 @@ impl Frame {
     {
         self.stage = stage;
         Next::Ask(part)
+    }
+}
+
+impl Default for Frame {
+    /// What an unused place holds.
+    fn default() -> Frame {
+        let unused = Question::Minus(Root::Leaf(0));
+        Frame {
+            question: unused,
+            fact: 0,
+            stage: Stage::Low(unused),
+        }
     }
 }

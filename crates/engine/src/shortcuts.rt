@@ -20,7 +20,7 @@ pub(crate) fn at_once<A: Arithmetic>(question: Question) -> Option<Root>
 fn sum_at_once<A: Arithmetic>(a: Root, b: Root) -> Option<Root>
     ensures { result ≡ sum_at_once A.Arithmetic.ring a b }
 {
-    let zero = Root::Leaf(A::zero_value());
+    let zero = Root::Leaf(A::ZERO);
     if a == zero {
         return Some(b);
     }
@@ -45,8 +45,8 @@ fn minus_at_once<A: Arithmetic>(a: Root) -> Option<Root>
 fn product_at_once<A: Arithmetic>(a: Root, b: Root) -> Option<Root>
     ensures { result ≡ product_at_once A.Arithmetic.ring a b }
 {
-    let zero = Root::Leaf(A::zero_value());
-    let one = Root::Leaf(A::one_value());
+    let zero = Root::Leaf(A::ZERO);
+    let one = Root::Leaf(A::ONE);
     if a == zero || b == zero {
         return Some(zero);
     }

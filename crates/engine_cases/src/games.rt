@@ -1,11 +1,11 @@
 ghost use Rattle.std.specs.Prelude.{◌≡◌, ◌<◌, T, length};
 ghost use Rattle.kfdd.specs.Reduced.{Held};
-ghost use Rattle.engine.specs.Soundness.{Sound};
+ghost use Rattle.engine.specs.Questions.{RootsHeld};
 
 use arithmetic::Arithmetic;
 use engine::Engine;
-use model::{Fault, Order, Root};
-use storage::{Memo, Store};
+use model::{Fault, Node, Order, Root};
+use storage::{Memo, Question, Store};
 
 const QUESTIONS: usize = 60;
 
@@ -42,13 +42,15 @@ pub fn play<A: Arithmetic, S: Store + Drop, M: Memo + Drop>(
 ) -> u64 {
     let mut engine = Engine::open(order, arithmetic, store, memo);
     let mut dice = Dice { state: seed };
-    let mut roots = [Root::Leaf(A::one_value()); ROOTS];
+    let mut roots = [Root::Leaf(A::ONE); ROOTS];
     let mut digest = seed;
     for _ in 0..QUESTIONS {
         digest = mixed(digest, step(&mut engine, &mut dice, &mut roots));
         digest = mixed(digest, engine.store().len() as u64);
     }
-    with_nodes(&engine, digest)
+    (0..engine.store().len())
+        .filter_map(|place| engine.store().node(place))
+        .fold(digest, with_node)
 }
 
 // One question about two of the roots. Its answer takes the place of another.
@@ -56,16 +58,13 @@ fn step<A: Arithmetic, S: Store, M: Memo>(
     engine: &mut Engine<A, S, M>,
     dice: &mut Dice,
     roots: &mut [Root; ROOTS],
-) -> u64
-    requires sound { Sound A.Arithmetic.ring S.Store.sound S.Store.nodes M.Memo.sound M.Memo.answers engine.old }
-    ensures sound { Sound A.Arithmetic.ring S.Store.sound S.Store.nodes M.Memo.sound M.Memo.answers engine.new }
-{
+) -> u64 {
     let a = roots[dice.roll(ROOTS)];
     let b = roots[dice.roll(ROOTS)];
     let put = match dice.roll(7) {
-        0 | 1 => Put::Sum(a, b),
-        2 => Put::Minus(a),
-        3 | 4 => Put::Times(a, b),
+        0 | 1 => Put::Question(Question::Sum(a, b)),
+        2 => Put::Question(Question::Minus(a)),
+        3 | 4 => Put::Question(Question::Times(a, b)),
         _ => Put::Fact(dice.roll(6)),
     };
     match ask(engine, put) {
@@ -75,17 +74,15 @@ fn step<A: Arithmetic, S: Store, M: Memo>(
         }
         Err(fault) => {
             engine.cut(dice.roll(30));
-            fault.refusal.number() as u64
+            u8::from(fault.refusal) as u64
         }
     }
 }
 
 /// What an engine is asked.
-#[derive(Clone, Copy)]
+#[derive(Clone, Copy, Debug, PartialEq, Eq)]
 pub enum Put {
-    Sum(Root, Root),
-    Minus(Root),
-    Times(Root, Root),
+    Question(Question),
     Fact(usize),
 }
 
@@ -93,23 +90,27 @@ pub enum Put {
 pub fn ask<A: Arithmetic, S: Store, M: Memo>(
     engine: &mut Engine<A, S, M>,
     put: Put,
-) -> Result<Root, Fault>
-    requires sound { Sound A.Arithmetic.ring S.Store.sound S.Store.nodes M.Memo.sound M.Memo.answers engine.old }
-    ensures sound { Sound A.Arithmetic.ring S.Store.sound S.Store.nodes M.Memo.sound M.Memo.answers engine.new }
-{
+) -> Result<Root, Fault> {
     match put {
-        Put::Sum(a, b) if is_held(engine, a) && is_held(engine, b) => engine.sum(a, b),
-        Put::Minus(a) if is_held(engine, a) => engine.minus(a),
-        Put::Times(a, b) if is_held(engine, a) && is_held(engine, b) => engine.times(a, b),
+        Put::Question(question) if are_held(engine, question) => engine.answer(question),
         Put::Fact(fact) if fact < engine.order().len() => engine.fact(fact),
-        _ => Ok(Root::Leaf(A::one_value())),
+        _ => Ok(Root::Leaf(A::ONE)),
+    }
+}
+
+// Whether the roots of a question are held.
+fn are_held<A: Arithmetic, S: Store, M: Memo>(engine: &Engine<A, S, M>, question: Question) -> bool
+    ensures { T result → RootsHeld A.Arithmetic.ring (S.Store.nodes engine.now.store) question }
+{
+    match question {
+        Question::Sum(a, b) | Question::Times(a, b) => is_held(engine, a) && is_held(engine, b),
+        Question::Minus(a) => is_held(engine, a),
     }
 }
 
 // Whether a root is a value's leaf or a node that is held.
 fn is_held<A: Arithmetic, S: Store, M: Memo>(engine: &Engine<A, S, M>, root: Root) -> bool
-    requires sound { Sound A.Arithmetic.ring S.Store.sound S.Store.nodes M.Memo.sound M.Memo.answers engine.now }
-    ensures held { T result → Held A.Arithmetic.ring (length (S.Store.nodes engine.now.store)) root }
+    ensures { T result → Held A.Arithmetic.ring (length (S.Store.nodes engine.now.store)) root }
 {
     match root {
         Root::Leaf(value) => A::is_value(value),
@@ -117,18 +118,9 @@ fn is_held<A: Arithmetic, S: Store, M: Memo>(engine: &Engine<A, S, M>, root: Roo
     }
 }
 
-fn with_nodes<A: Arithmetic, S: Store, M: Memo>(engine: &Engine<A, S, M>, digest: u64) -> u64
-    requires sound { Sound A.Arithmetic.ring S.Store.sound S.Store.nodes M.Memo.sound M.Memo.answers engine.now }
-{
-    let mut digest = digest;
-    for place in 0..engine.store().len() {
-        if let Some(node) = engine.store().node(place) {
-            digest = mixed(digest, node.fact as u64);
-            digest = mixed(digest, code(node.low));
-            digest = mixed(digest, code(node.high));
-        }
-    }
-    digest
+fn with_node(digest: u64, node: Node) -> u64 {
+    let fact = mixed(digest, node.fact as u64);
+    mixed(mixed(fact, code(node.low)), code(node.high))
 }
 
 fn code(root: Root) -> u64 {

@@ -5,16 +5,12 @@ use std::test::Fail;
 // An order of facts of these types, named a, b and so on.
 pub(crate) fn order(rt: &impl Abort, types: &[Decomposition]) -> Result<Order, Fail> {
     let mut order = Order::new();
-    for (i, decomposition) in types.iter().enumerate() {
-        let letter = b"abcdefghijklmnopqrstuvwxyz"[i % 26];
-        let Some(name) = Name::new(&[letter]) else {
-            return Err(Fail::new("a letter is a name"));
-        };
+    for (decomposition, letter) in types.iter().zip(b"abcdefghijklmnopqrstuvwxyz".chunks(1)) {
         let fact = Fact {
             decomposition: *decomposition,
-            name,
+            name: Name::try_from(letter)?,
         };
-        assert!(rt; order.add(fact).is_ok());
+        assert_eq!(rt; order.add(fact), Ok(()));
     }
     Ok(order)
 }

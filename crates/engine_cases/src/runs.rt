@@ -4,75 +4,97 @@ use arithmetic::{Amounts, Arithmetic, YesNo};
 use model::{Node, Order, Root};
 use std::process::Abort;
 use std::test::Fail;
-use storage::{Answered, BlankMemo, HashedStore, Memo, NodeKey, PlainStore, SlotMemo};
+use storage::{Answered, BlankMemo, HashedStore, NodeKey, PlainStore, SlotMemo};
 use table::Cell;
 
 const CAPACITY: usize = 150;
 
-fn plain_run<A: Arithmetic, M: Memo + Drop>(
-    order: Order,
-    arithmetic: A,
-    memo: M,
-    seed: u64,
-) -> u64 {
-    let blank = Node {
-        fact: 0,
-        low: Root::Inner(0),
-        high: Root::Inner(0),
-    };
-    let mut nodes = [blank; CAPACITY];
-    play(order, arithmetic, PlainStore::new(&mut nodes), memo, seed)
-}
-
-fn hashed_run<A: Arithmetic, M: Memo + Drop>(
-    order: Order,
-    arithmetic: A,
-    memo: M,
-    seed: u64,
-) -> u64 {
-    let mut cells = [Cell::<NodeKey>::empty(); CAPACITY];
-    play(order, arithmetic, HashedStore::new(&mut cells), memo, seed)
-}
+const BLANK: Node = Node {
+    fact: 0,
+    low: Root::Inner(0),
+    high: Root::Inner(0),
+};
 
 // The same questions with the blank memo, with slot memos of one, of a prime number and of thousands
-// of slots, and with the other store.
+// of slots, and with the other store. All but the first begin with memory that another run left.
 fn same_runs<A: Arithmetic>(rt: &impl Abort, order: Order, arithmetic: A, seed: u64) {
+    let mut nodes = [BLANK; CAPACITY];
+    let mut cells = [Cell::<NodeKey>::empty(); CAPACITY];
     let mut one: [Option<Answered>; 1] = [None];
     let mut prime: [Option<Answered>; 101] = [None; 101];
     let mut many: [Option<Answered>; 4096] = [None; 4096];
-    let mut again: [Option<Answered>; 4096] = [None; 4096];
-    let plain = plain_run(order, arithmetic, BlankMemo, seed);
+    let plain = play(
+        order,
+        arithmetic,
+        PlainStore::new(&mut nodes),
+        BlankMemo,
+        seed,
+    );
     assert_eq!(rt;
-        plain_run(order, arithmetic, SlotMemo::new(&mut one), seed),
+        play(
+            order,
+            arithmetic,
+            PlainStore::new(&mut nodes),
+            SlotMemo::new(&mut one),
+            seed
+        ),
         plain
     );
     assert_eq!(rt;
-        plain_run(order, arithmetic, SlotMemo::new(&mut prime), seed),
+        play(
+            order,
+            arithmetic,
+            PlainStore::new(&mut nodes),
+            SlotMemo::new(&mut prime),
+            seed
+        ),
         plain
     );
     assert_eq!(rt;
-        plain_run(order, arithmetic, SlotMemo::new(&mut many), seed),
+        play(
+            order,
+            arithmetic,
+            PlainStore::new(&mut nodes),
+            SlotMemo::new(&mut many),
+            seed
+        ),
         plain
     );
-    assert_eq!(rt; hashed_run(order, arithmetic, BlankMemo, seed), plain);
     assert_eq!(rt;
-        hashed_run(order, arithmetic, SlotMemo::new(&mut again), seed),
+        play(
+            order,
+            arithmetic,
+            HashedStore::new(&mut cells),
+            BlankMemo,
+            seed
+        ),
         plain
     );
+    assert_eq!(rt;
+        play(
+            order,
+            arithmetic,
+            HashedStore::new(&mut cells),
+            SlotMemo::new(&mut many),
+            seed
+        ),
+        plain
+    );
+}
+
+fn all_runs<A: Arithmetic>(rt: &impl Abort, arithmetic: A) -> Result<(), Fail> {
+    for seed in 0..300 {
+        same_runs(rt, order(rt, &mixed_types(seed))?, arithmetic, seed as u64);
+    }
+    Ok(())
 }
 
 #[test]
 fn yes_no_runs(rt: HostRuntime) -> Result<(), Fail> {
-    for seed in 0..300 {
-        same_runs(&rt, order(&rt, &mixed_types(seed))?, YesNo, seed as u64);
-    }
-    Ok(())
+    all_runs(&rt, YesNo)
 }
 
 #[test]
 fn amounts_runs(rt: HostRuntime) -> Result<(), Fail> {
-    for seed in 0..300 {
-        same_runs(&rt, order(&rt, &mixed_types(seed))?, Amounts, seed as u64);
-    }
-    Ok(())
+    all_runs(&rt, Amounts)
 }

@@ -1,10 +1,10 @@
 -- Assignments to the facts below n, and the numbers below 2 ^ n: each has exactly one of the other.
 use Rattle.std.proofs.Common.{◌≡◌, ℕ, zero, suc, ◌+◌, ◌-◌, ◌*◌, ◌/◌, ◌%◌, ◌^◌, ◌<◌, ◌≤◌, Bool, true, false, cond, eqb, sym, refl, ap, ◌∙◌, inl, inr, mod-eq_of_lt, arith, pow_mono}
 use Rattle.std.proofs.lemmas.Nat.{pow_pos, pow-add, mod-pow-add, or_shifted, or_comm, shr_high, div-add-mod', div-mul-add, mod_below}
-use native.Mathlib.Nat.{div-eq_of_lt}
 use lib.Bits.{bit_or}
 use Rattle.std.proofs.lemmas.Bool.{cases_lt}
 use Rattle.model.specs.Assignments.{holds}
+use Rattle.arithmetic.proofs.Assignments.{fails_beyond}
 use Rattle.kfdd.specs.Assignments.{number, OneNumber}
 use Rattle.kfdd.proofs.Ordered.{put}
 
@@ -79,8 +79,7 @@ same_bits n a b p q e = sym (number_holds n a p) ∙ number_agrees n (holds a) (
 pub no_bit : (n a i : ℕ) → a < 2 ^ n → n ≤ i → holds a i ≡ false
 no_bit n a i h le =
     let m : 2 ^ n ≤ 2 ^ i = pow_mono le in
-    let e : a / 2 ^ i ≡ 0 = div-eq_of_lt (let k : a < 2 ^ i = omega arith in k) in
-    ap (λ k. eqb (k % 2) 1) e
+    fails_beyond a i (omega arith)
 
 -- the number with fact f set to b
 pub put_number : (n a f : ℕ) (b : Bool) (i : ℕ) → i < n → holds (number n (put (holds a) f b)) i ≡ put (holds a) f b i

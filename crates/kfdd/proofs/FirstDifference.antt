@@ -9,6 +9,7 @@ use Rattle.model.specs.declared.root.Root.TheVariants.{Leaf, Inner}
 use Rattle.model.specs.declared.decomposition.Decomposition.{Decomposition}
 use Rattle.model.specs.declared.decomposition.Decomposition.TheVariants.{Shannon, PositiveDavio, NegativeDavio}
 use Rattle.model.specs.declared.node.Node.{Node}
+use Rattle.arithmetic.proofs.RingLaws.{sum_zero_right}
 use Rattle.kfdd.specs.Values.{mix, value}
 use Rattle.kfdd.specs.Reduced.{level, Held, Reduced}
 use Rattle.kfdd.specs.Ordered.{Ordered}
@@ -18,7 +19,7 @@ use Rattle.kfdd.specs.Assignments.{worth}
 use Rattle.kfdd.specs.FirstDifference.{preferred, First, same_lows, lows, highs, walked, taken, walk, WalkFindsFirst}
 use Rattle.kfdd.proofs.Values.{value_leaf}
 use Rattle.kfdd.proofs.Ordered.{reduced_ordered, low_in, high_in, node_is, is_value}
-use Rattle.kfdd.proofs.Sides.{mix_preferred, mix_other, sum_nothing}
+use Rattle.kfdd.proofs.Sides.{mix_preferred, mix_other}
 use Rattle.kfdd.proofs.Assignments.{number_below, holds_number, same_bits}
 use Rattle.kfdd.proofs.AssignmentOrder.{other_side, either_side, topmost_apart, first_unique}
 use Rattle.kfdd.proofs.CanonicalNumbers.{same_values_equal}
@@ -67,10 +68,10 @@ module _ (R : Ring) (closed : Closed R) (laws : Laws R) where
     other_value : (t : Decomposition) (b : Bool) (x : ℕ → Bool) (r : Root) → T (R.value (val x r)) → val x r ≡ mix R t b (val x (split_other R t r).0) (val x (split_other R t r).1)
     other_value Shannon true x r h = refl
     other_value Shannon false x r h = refl
-    other_value PositiveDavio true x r h = sym (ap (R.sum (val x r)) (value_leaf R types x ns R.zero) ∙ sum_nothing R closed laws (val x r) h)
+    other_value PositiveDavio true x r h = sym (ap (R.sum (val x r)) (value_leaf R types x ns R.zero) ∙ sum_zero_right R closed laws (val x r) h)
     other_value PositiveDavio false x r h = refl
     other_value NegativeDavio true x r h = refl
-    other_value NegativeDavio false x r h = sym (ap (R.sum (val x r)) (value_leaf R types x ns R.zero) ∙ sum_nothing R closed laws (val x r) h)
+    other_value NegativeDavio false x r h = sym (ap (R.sum (val x r)) (value_leaf R types x ns R.zero) ∙ sum_zero_right R closed laws (val x r) h)
 
     -- a root of a later fact
     other_parts : (f : ℕ) → f < length types → (r : Root) → Held R (length ns) r → f < level types ns r → Parts f r (split_other R (type_at f) r)

@@ -1,12 +1,9 @@
 -- Signals and gates that pass their checks are answered, and worth what the net says.
-use Rattle.std.proofs.Common.{◌≡◌, ℕ, ◌+◌, ◌-◌, ◌<◌, Bool, true, false, cond, T, ltb, ◌⊎◌, List, [], ◌∷◌, ◌++◌, length, get_or, Some, None, Ok, Err, Option, Result, sym, refl, ap, ◌∙◌, subst, inl, inr, arith}
+use Rattle.std.proofs.Common.{◌≡◌, ℕ, ◌+◌, ◌-◌, ◌<◌, Bool, true, false, cond, T, ltb, ◌⊎◌, List, [], ◌∷◌, ◌++◌, length, get_or, Some, None, Ok, Option, sym, refl, ap, ◌∙◌, subst, inl, inr, arith}
 use Rattle.std.proofs.lemmas.List.{get_or_append_left, get_or_push, length_push}
-use Rattle.std.proofs.lemmas.Bool.{cases_lt, ltb-true, ltb-false, and_parts}
-use Rattle.model.specs.Names.{every}
+use Rattle.std.proofs.lemmas.Bool.{cases_lt, ltb-true, ltb-false}
 use Rattle.model.specs.Nets.{kind_of, fact_value, operation, signal_value, gate_value}
 use Rattle.model.specs.Rings.{Ring, Closed, Laws}
-use Rattle.model.specs.declared.fault.Refusal.{Refusal}
-use Rattle.model.specs.declared.fault.Refusal.TheVariants.{BadGate, BadConstant}
 use Rattle.model.specs.declared.gate.Gate.{Gate}
 use Rattle.model.specs.declared.gate.GateKind.{GateKind}
 use Rattle.model.specs.declared.gate.GateKind.TheVariants.{Const, Sum, Times, Minus, Not, Or}
@@ -15,6 +12,8 @@ use Rattle.model.specs.declared.root.Root.TheVariants.{Leaf, Inner}
 use Rattle.model.specs.declared.decomposition.Decomposition.{Decomposition}
 use Rattle.model.specs.declared.node.Node.{Node}
 use Rattle.arithmetic.specs.NetChecks.{verdict_by_kind, gate_verdict}
+use Rattle.arithmetic.proofs.NetLaws.{constant_known}
+use Rattle.arithmetic.proofs.NetValues.{both_earlier, one_earlier}
 use Rattle.kfdd.specs.Values.{value}
 use Rattle.kfdd.specs.Reduced.{Held, Reduced}
 use Rattle.kfdd.specs.Appending.{Extends}
@@ -39,30 +38,13 @@ Usable R signals g Minus = g.first < signals
 Usable R signals g Not = g.first < signals
 Usable R signals g Or = (g.first < signals) × (g.second < signals)
 
-passed : (b : Bool) (r : Refusal) (rest : Result (Unit {0}) Refusal) → cond b rest (Err r) ≡ Ok tt → (b ≡ true) × (rest ≡ Ok tt)
-passed true r rest e = (refl, e)
-passed false r rest e = absurd (let z : ◌≡◌ {A = ℕ} 0 1 = cc in omega arith)
-
-module _ (R : Ring) (signals : ℕ) (g : Gate) where
-  two_before : (every (λ s. ltb s signals) (g.first ∷ g.second ∷ []) ≡ true) → (g.first < signals) × (g.second < signals)
-  two_before e =
-      let p = and_parts (ltb g.first signals) (every (λ s. ltb s signals) (g.second ∷ [])) e in
-      let q = and_parts (ltb g.second signals) true p.1 in
-      (ltb-true g.first signals p.0, ltb-true g.second signals q.0)
-
-  one_before : (every (λ s. ltb s signals) (g.first ∷ []) ≡ true) → g.first < signals
-  one_before e = ltb-true g.first signals (and_parts (ltb g.first signals) true e).0
-
-  a_value : (every R.value (g.number ∷ []) ≡ true) → T (R.value g.number)
-  a_value e = subst T (sym (and_parts (R.value g.number) true e).0) tt
-
 usable : (R : Ring) (signals : ℕ) (g : Gate) (k : GateKind) → verdict_by_kind R signals g (Some k) ≡ Ok tt → Usable R signals g k
-usable R signals g Const e = a_value R signals g (passed (every R.value (g.number ∷ [])) BadConstant (Ok tt) (passed true BadGate (cond (every R.value (g.number ∷ [])) (Ok tt) (Err BadConstant)) e).1).0
-usable R signals g Sum e = two_before R signals g (passed (every (λ s. ltb s signals) (g.first ∷ g.second ∷ [])) BadGate (Ok tt) e).0
-usable R signals g Times e = two_before R signals g (passed (every (λ s. ltb s signals) (g.first ∷ g.second ∷ [])) BadGate (Ok tt) e).0
-usable R signals g Minus e = one_before R signals g (passed (every (λ s. ltb s signals) (g.first ∷ [])) BadGate (Ok tt) e).0
-usable R signals g Not e = one_before R signals g (passed (every (λ s. ltb s signals) (g.first ∷ [])) BadGate (Ok tt) e).0
-usable R signals g Or e = two_before R signals g (passed (every (λ s. ltb s signals) (g.first ∷ g.second ∷ [])) BadGate (Ok tt) e).0
+usable R signals g Const e = constant_known (R.value g.number) e
+usable R signals g Sum e = both_earlier signals (Ok tt) g.first g.second e
+usable R signals g Times e = both_earlier signals (Ok tt) g.first g.second e
+usable R signals g Minus e = one_earlier signals (Ok tt) g.first e
+usable R signals g Not e = one_earlier signals (Ok tt) g.first e
+usable R signals g Or e = both_earlier signals (Ok tt) g.first g.second e
 
 module _ (R : Ring) (types : List Decomposition) where
   pub worths_none : (ns : List Node) → Worths R types ns [] (λ x. [])

@@ -10,8 +10,8 @@ use Rattle.kfdd.specs.Reduced.{Held, Needed, Placed, Reduced}
 use Rattle.kfdd.specs.Appending.{Extends}
 use Rattle.kfdd.specs.Joining.{full, done, drops, place_of, found_or_added, find_or_add, join, fact_root, fact_parts}
 use Rattle.kfdd.proofs.Values.{value_leaf}
-use Rattle.kfdd.proofs.Canonical.{node_is}
-use Rattle.kfdd.proofs.RingMore.{sum_zero_right}
+use Rattle.kfdd.proofs.Ordered.{reduced_ordered, node_is}
+use Rattle.arithmetic.proofs.RingLaws.{sum_zero_right}
 use Rattle.kfdd.proofs.Places.{Found, same_root_true, same_root_false, place_some, place_none, place_append, place_push}
 use Rattle.kfdd.proofs.Appending.{extends_by}
 use Rattle.kfdd.proofs.Pushed.{push_reduced}
@@ -78,7 +78,7 @@ module _ (R : Ring) (closed : Closed R) (laws : Laws R) (types : List Decomposit
       record {
         held = p.within;
         later = omega (arith, ap (λ (n : Node). n.fact) p.there);
-        worth = λ x. node_is R closed types ns red x k p.within
+        worth = λ x. node_is R types ns (reduced_ordered R types ns red) x k p.within
             ∙ ap (λ (n : Node). mix R (get_or types n.fact Shannon) (x n.fact) (value R types x ns n.low) (value R types x ns n.high)) p.there
             ∙ ap₂ (mix R (get_or types f Shannon) (x f)) (sl.worth x) (sh.worth x);
       }

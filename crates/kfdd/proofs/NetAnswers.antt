@@ -1,12 +1,11 @@
 -- A net that passes its checks is built, and worth what the net is worth.
-use Rattle.std.proofs.Common.{◌≡◌, ℕ, suc, ◌+◌, ◌<◌, ◌≤◌, max, Bool, true, false, cond, ltb, List, [], ◌∷◌, ◌++◌, map, length, get_or, Ok, Err, Result, sym, refl, ap, ◌∙◌, subst, inl, inr, append_assoc, append-nil, arith}
+use Rattle.std.proofs.Common.{◌≡◌, ℕ, suc, ◌+◌, ◌<◌, ◌≤◌, max, Bool, false, ltb, List, [], ◌∷◌, ◌++◌, map, length, get_or, Ok, sym, refl, ap, ◌∙◌, subst, inl, inr, append_assoc, append-nil, arith}
 use Rattle.std.proofs.lemmas.List.{length_push}
 use Rattle.std.proofs.lemmas.Bool.{cases_lt, ltb-true}
 use Rattle.model.specs.Gates.{empty_gate}
 use Rattle.model.specs.Nets.{signal_value, gate_value, values_after, gate_values, output_value}
 use Rattle.model.specs.Refusals.{fault}
 use Rattle.model.specs.Rings.{Ring, Closed, Laws}
-use Rattle.model.specs.declared.fault.Refusal.{Refusal}
 use Rattle.model.specs.declared.fault.Refusal.TheVariants.{BadOutput, StoreFull}
 use Rattle.model.specs.declared.gate.Gate.{Gate}
 use Rattle.model.specs.declared.output.Output.{Output}
@@ -14,6 +13,7 @@ use Rattle.model.specs.declared.root.Root.{Root}
 use Rattle.model.specs.declared.decomposition.Decomposition.{Decomposition}
 use Rattle.model.specs.declared.node.Node.{Node}
 use Rattle.arithmetic.specs.NetChecks.{gate_verdict, output_verdict, output_at, NetVerdict}
+use Rattle.arithmetic.proofs.NetValues.{passed}
 use Rattle.kfdd.specs.Reduced.{Reduced}
 use Rattle.kfdd.specs.Appending.{Extends}
 use Rattle.kfdd.specs.Joining.{done}
@@ -96,13 +96,9 @@ module _ (R : Ring) (types : List Decomposition) where
         again = a.again;
       }
 
-passed : (b : Bool) → ◌≡◌ {A = Result (Unit {0}) Refusal} (cond b (Ok tt) (Err BadOutput)) (Ok tt) → b ≡ true
-passed true e = refl
-passed false e = absurd (let z : ◌≡◌ {A = ℕ} 0 1 = cc in omega arith)
-
 -- an output that passes is a signal
 a_signal : (signals s : ℕ) → output_verdict signals s ≡ Ok tt → s < signals
-a_signal signals s e = ltb-true s signals (passed (ltb s signals) e)
+a_signal signals s e = ltb-true s signals (passed BadOutput (Ok tt) (ltb s signals) e).0
 
 module _ (R : Ring) (closed : Closed R) (laws : Laws R) (types : List Decomposition) where
   abbrev Values : Type 0

@@ -7,9 +7,6 @@ module _ (R : Ring) (closed : Closed R) (laws : Laws R) where
   abbrev V : ℕ → Type 0
   V n = T (R.value n)
 
-  pub sum_zero_right : (a : ℕ) → V a → R.sum a R.zero ≡ a
-  sum_zero_right a p = laws.sum_comm a R.zero p closed.zero_value ∙ laws.sum_zero a p
-
   pub product_one_right : (a : ℕ) → V a → R.product a R.one ≡ a
   product_one_right a p = laws.product_comm a R.one p closed.one_value ∙ laws.product_one a p
 

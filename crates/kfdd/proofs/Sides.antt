@@ -1,5 +1,5 @@
 -- What a node is worth on either side of its fact, from its children's values.
-use Rattle.std.proofs.Common.{◌≡◌, ℕ, Bool, true, false, not, T, refl, ◌∙◌}
+use Rattle.std.proofs.Common.{◌≡◌, ℕ, Bool, true, false, not, T, refl}
 use Rattle.model.specs.Rings.{Ring, Closed, Laws}
 use Rattle.model.specs.declared.decomposition.Decomposition.{Decomposition}
 use Rattle.model.specs.declared.decomposition.Decomposition.TheVariants.{Shannon, PositiveDavio, NegativeDavio}
@@ -30,6 +30,3 @@ module _ (R : Ring) (closed : Closed R) (laws : Laws R) where
   mix_other Shannon l h h' p q r e = e
   mix_other PositiveDavio l h h' p q r e = cancel R closed laws l h h' p q r e
   mix_other NegativeDavio l h h' p q r e = cancel R closed laws l h h' p q r e
-
-  pub sum_nothing : (v : ℕ) → V v → R.sum v R.zero ≡ v
-  sum_nothing v p = laws.sum_comm v R.zero p closed.zero_value ∙ laws.sum_zero v p

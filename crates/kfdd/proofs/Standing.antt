@@ -1,5 +1,5 @@
 -- Roots with what they are worth, and what splitting makes of one.
-use Rattle.std.proofs.Common.{◌≡◌, ℕ, suc, ◌<◌, ◌≤◌, Bool, true, false, cond, T, eqb, List, length, get_or, sym, refl, ap, ◌∙◌, subst, arith}
+use Rattle.std.proofs.Common.{◌≡◌, ℕ, suc, ◌<◌, ◌≤◌, Bool, true, false, cond, T, eqb, List, length, get_or, sym, refl, ap, ◌∙◌, subst, ap₂, arith}
 use Rattle.std.proofs.lemmas.Bool.{eqb-true, eqb-false}
 use Rattle.model.specs.Rings.{Ring, Closed, Laws}
 use Rattle.model.specs.Roots.{blank_node}
@@ -8,8 +8,8 @@ use Rattle.kfdd.specs.Reduced.{level, Held, Reduced}
 use Rattle.kfdd.specs.Splitting.{split, split_other}
 use Rattle.kfdd.specs.Appending.{Extends}
 use Rattle.kfdd.proofs.Values.{held_more, value_leaf}
-use Rattle.kfdd.proofs.Canonical.{node_is, is_value}
-use Rattle.kfdd.proofs.RingMore.{sum_zero_right}
+use Rattle.kfdd.proofs.Ordered.{reduced_ordered, node_is, is_value}
+use Rattle.arithmetic.proofs.RingLaws.{sum_zero_right}
 use Rattle.kfdd.proofs.Appending.{held_after, level_after, value_after}
 use Rattle.model.specs.declared.root.Root.{Root}
 use Rattle.model.specs.declared.root.Root.TheVariants.{Leaf, Inner}
@@ -48,12 +48,22 @@ module _ (R : Ring) (types : List Decomposition) where
   pub leaf_stands : (ns : List Node) (l v : ℕ) → T (R.value v) → l ≤ length types → Stands R types ns l (λ x. v) (Leaf v)
   leaf_stands ns l v h le = record { held = h; later = le; worth = λ x. value_leaf R types x ns v }
 
+  -- an operation on two leaves is a leaf at once
+  pub leaf_pair_stands : (op : ℕ → ℕ → ℕ) (ns : List Node) (l p q : ℕ) (u v : (ℕ → Bool) → ℕ) → T (R.value (op p q))
+      → Stands R types ns l u (Leaf p) → Stands R types ns l v (Leaf q) → Stands R types ns l (λ x. op (u x) (v x)) (Leaf (op p q))
+  leaf_pair_stands op ns l p q u v known sa sb =
+      record {
+        held = known;
+        later = sa.later;
+        worth = λ x. value_leaf R types x ns (op p q) ∙ ap₂ op (sym (value_leaf R types x ns p) ∙ sa.worth x) (sym (value_leaf R types x ns q) ∙ sb.worth x);
+      }
+
 module _ (R : Ring) (closed : Closed R) (laws : Laws R) (types : List Decomposition) (ns : List Node) (red : Reduced R types ns) where
   abbrev worth_of : (ℕ → Bool) → Root → ℕ
   worth_of x r = value R types x ns r
 
   pub held_value : (x : ℕ → Bool) (r : Root) → Held R (length ns) r → T (R.value (worth_of x r))
-  held_value x r h = is_value R closed types ns red x (length ns) (omega arith) r h
+  held_value x r h = is_value R types ns (reduced_ordered R types ns red) closed x r h
 
   pub stands_value : (l : ℕ) (w : (ℕ → Bool) → ℕ) (r : Root) → Stands R types ns l w r → (x : ℕ → Bool) → T (R.value (w x))
   stands_value l w r s x = subst (λ n. T (R.value n)) (s.worth x) (held_value x r s.held)
@@ -90,7 +100,7 @@ module _ (R : Ring) (closed : Closed R) (laws : Laws R) (types : List Decomposit
         record {
           low = stands_plainly R types ns (suc f) n.low (held_more R k (length ns) n.low (omega arith) p.low_held) (omega (arith, p.low_later, e));
           high = stands_plainly R types ns (suc f) n.high (held_more R k (length ns) n.high (omega arith) p.high_held) (omega (arith, p.high_later, e));
-          mixed = λ x. node_is R closed types ns red x k h ∙ ap (λ i. mix R (get_or types i Shannon) (x i) (worth_of x n.low) (worth_of x n.high)) e;
+          mixed = λ x. node_is R types ns (reduced_ordered R types ns red) x k h ∙ ap (λ i. mix R (get_or types i Shannon) (x i) (worth_of x n.low) (worth_of x n.high)) e;
         }
 
     inner_halves : (k : ℕ) → k < length ns → f ≤ (get_or ns k blank_node).fact → (b : Bool) → eqb (get_or ns k blank_node).fact f ≡ b

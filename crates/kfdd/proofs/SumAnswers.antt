@@ -1,5 +1,6 @@
 -- Sums of held roots are answered, and worth the sum.
 use Rattle.std.proofs.Common.{◌≡◌, ℕ, zero, suc, ◌+◌, ◌<◌, ◌≤◌, Bool, true, false, T, List, length, get_or, Some, None, Option, sym, refl, ap, ◌∙◌, subst, ap₂, arith}
+use Rattle.std.proofs.lemmas.Option.{none-some}
 use Rattle.model.specs.Rings.{Ring, Closed, Laws}
 use Rattle.kfdd.specs.Values.{mix, value}
 use Rattle.kfdd.specs.Reduced.{Held, Reduced}
@@ -8,11 +9,10 @@ use Rattle.kfdd.specs.Splitting.{split, topmost}
 use Rattle.kfdd.specs.Joining.{full, done}
 use Rattle.kfdd.specs.Recipe.{else, or_if, is_zero, sum_of_leaves, sum_at_once, sum}
 use Rattle.kfdd.specs.Stages.{sum_split}
-use Rattle.kfdd.proofs.Values.{value_leaf}
-use Rattle.kfdd.proofs.RingMore.{sum_zero_right}
+use Rattle.arithmetic.proofs.RingLaws.{sum_zero_right}
 use Rattle.kfdd.proofs.Mixing.{mix_sum}
 use Rattle.kfdd.proofs.Appending.{extends_self, split_after}
-use Rattle.kfdd.proofs.Standing.{Stands, stands_after, stands_as, stands_plainly, stands_value, leaf_stands, held_value, split_halves}
+use Rattle.kfdd.proofs.Standing.{Stands, leaf_pair_stands, stands_after, stands_as, stands_plainly, stands_value, held_value, split_halves}
 use Rattle.kfdd.proofs.Answering.{Question, Answered, at_once, as_question, as_worth, one_deeper}
 use Rattle.kfdd.proofs.Outcomes.{any_count}
 use Rattle.kfdd.proofs.Steps.{or_if_none, zero_worth, inner_known, topmost_after, low_high_answered}
@@ -41,7 +41,7 @@ module _ (R : Ring) (closed : Closed R) (laws : Laws R) (types : List Decomposit
     pub topmost_known : (a b : Root) → Held R (length ns) a → Held R (length ns) b → sum_at_once R a b ≡ None → topmost types ns a b < length types
     topmost_known (Leaf p) (Leaf q) ha hb e =
         let rest = or_if_none (is_zero R (Leaf q)) (Leaf p) (Some (Leaf (R.sum p q))) (or_if_none (is_zero R (Leaf p)) (Leaf q) (or_if (is_zero R (Leaf q)) (Leaf p) (Some (Leaf (R.sum p q)))) e) in
-        absurd (let z : ◌≡◌ {A = ℕ} 0 1 = cc in omega arith)
+        absurd (none-some (Leaf (R.sum p q)) (sym rest))
     topmost_known (Leaf p) (Inner j) ha hb e = omega (arith, inner_known R types ns red j hb)
     topmost_known (Inner k) (Leaf q) ha hb e = omega (arith, inner_known R types ns red k ha)
     topmost_known (Inner k) (Inner j) ha hb e = omega (arith, inner_known R types ns red k ha)
@@ -53,13 +53,10 @@ module _ (R : Ring) (closed : Closed R) (laws : Laws R) (types : List Decomposit
     leaves_stand : (a b r : Root) → Stands R types ns l u a → Stands R types ns l v b → sum_of_leaves R a b ≡ Some r → Stands R types ns l total r
     leaves_stand (Leaf p) (Leaf q) r sa sb e =
         let same : Leaf (R.sum p q) ≡ r = cc in
-        subst (Stands R types ns l total) same
-        (stands_as R types ns l l (λ x. R.sum p q) total (Leaf (R.sum p q)) (omega arith)
-        (λ x. ap₂ R.sum (sym (value_leaf R types x ns p) ∙ sa.worth x) (sym (value_leaf R types x ns q) ∙ sb.worth x))
-        (leaf_stands R types ns l (R.sum p q) (closed.sum_value p q sa.held sb.held) sa.later))
-    leaves_stand (Leaf p) (Inner j) r sa sb e = absurd (let z : ◌≡◌ {A = ℕ} 0 1 = cc in omega arith)
-    leaves_stand (Inner k) (Leaf q) r sa sb e = absurd (let z : ◌≡◌ {A = ℕ} 0 1 = cc in omega arith)
-    leaves_stand (Inner k) (Inner j) r sa sb e = absurd (let z : ◌≡◌ {A = ℕ} 0 1 = cc in omega arith)
+        subst (Stands R types ns l total) same (leaf_pair_stands R types R.sum ns l p q u v (closed.sum_value p q sa.held sb.held) sa sb)
+    leaves_stand (Leaf p) (Inner j) r sa sb e = absurd (none-some r e)
+    leaves_stand (Inner k) (Leaf q) r sa sb e = absurd (none-some r e)
+    leaves_stand (Inner k) (Inner j) r sa sb e = absurd (none-some r e)
 
     module _ (a b : Root) (sa : Stands R types ns l u a) (sb : Stands R types ns l v b) where
       without_first : (t : Bool) → is_zero R b ≡ t → (r : Root) → or_if t a (sum_of_leaves R a b) ≡ Some r → Stands R types ns l total r

@@ -1,5 +1,6 @@
 -- Products of held roots are answered, and worth the product.
 use Rattle.std.proofs.Common.{◌≡◌, ℕ, zero, suc, ◌+◌, ◌<◌, ◌≤◌, Bool, true, false, T, List, length, get_or, Some, None, Option, sym, refl, ap, ◌∙◌, subst, ap₂, arith}
+use Rattle.std.proofs.lemmas.Option.{none-some}
 use Rattle.model.specs.Rings.{Ring, Closed, Laws}
 use Rattle.kfdd.specs.Values.{mix, value}
 use Rattle.kfdd.specs.Reduced.{Held, Reduced}
@@ -8,12 +9,11 @@ use Rattle.kfdd.specs.Splitting.{split, topmost}
 use Rattle.kfdd.specs.Joining.{full, done, then}
 use Rattle.kfdd.specs.Recipe.{else, or_if, is_zero, is_one, product_of_leaves, product_at_once, high_of_product, high_of_davio_product, sum, times}
 use Rattle.kfdd.specs.Stages.{times_split}
-use Rattle.kfdd.proofs.Values.{value_leaf}
 use Rattle.arithmetic.proofs.RingLaws.{product_zero}
 use Rattle.kfdd.proofs.RingMore.{product_zero_right, product_one_right}
 use Rattle.kfdd.proofs.Mixing.{mix_product, product_high}
 use Rattle.kfdd.proofs.Appending.{extends_self, split_after}
-use Rattle.kfdd.proofs.Standing.{Stands, stands_after, stands_as, stands_plainly, stands_value, leaf_stands, held_value, split_halves}
+use Rattle.kfdd.proofs.Standing.{Stands, leaf_pair_stands, stands_after, stands_as, stands_plainly, stands_value, leaf_stands, held_value, split_halves}
 use Rattle.kfdd.proofs.Answering.{Question, Answered, at_once, one_then, as_question, as_worth, one_deeper}
 use Rattle.kfdd.proofs.Outcomes.{any_count}
 use Rattle.kfdd.proofs.Steps.{or_if_none, zero_worth, one_worth, inner_known, level_within, topmost_after, low_high_answered}
@@ -48,7 +48,7 @@ module _ (R : Ring) (closed : Closed R) (laws : Laws R) (types : List Decomposit
         let zeros-b = or_if (is_zero R (Leaf q)) (Leaf R.zero) ones-a in
         let rest = or_if_none (is_one R (Leaf q)) (Leaf p) leaves (or_if_none (is_one R (Leaf p)) (Leaf q) ones-b
         (or_if_none (is_zero R (Leaf q)) (Leaf R.zero) ones-a (or_if_none (is_zero R (Leaf p)) (Leaf R.zero) zeros-b e))) in
-        absurd (let z : ◌≡◌ {A = ℕ} 0 1 = cc in omega arith)
+        absurd (none-some (Leaf (R.product p q)) (sym rest))
     topmost_known (Leaf p) (Inner j) ha hb e = omega (arith, inner_known R types ns red j hb)
     topmost_known (Inner k) (Leaf q) ha hb e = omega (arith, inner_known R types ns red k ha)
     topmost_known (Inner k) (Inner j) ha hb e = omega (arith, inner_known R types ns red k ha)
@@ -60,13 +60,10 @@ module _ (R : Ring) (closed : Closed R) (laws : Laws R) (types : List Decomposit
     leaves_stand : (a b r : Root) → Stands R types ns l u a → Stands R types ns l v b → product_of_leaves R a b ≡ Some r → Stands R types ns l result r
     leaves_stand (Leaf p) (Leaf q) r sa sb e =
         let same : Leaf (R.product p q) ≡ r = cc in
-        subst (Stands R types ns l result) same
-        (stands_as R types ns l l (λ x. R.product p q) result (Leaf (R.product p q)) (omega arith)
-        (λ x. ap₂ R.product (sym (value_leaf R types x ns p) ∙ sa.worth x) (sym (value_leaf R types x ns q) ∙ sb.worth x))
-        (leaf_stands R types ns l (R.product p q) (closed.product_value p q sa.held sb.held) sa.later))
-    leaves_stand (Leaf p) (Inner j) r sa sb e = absurd (let z : ◌≡◌ {A = ℕ} 0 1 = cc in omega arith)
-    leaves_stand (Inner k) (Leaf q) r sa sb e = absurd (let z : ◌≡◌ {A = ℕ} 0 1 = cc in omega arith)
-    leaves_stand (Inner k) (Inner j) r sa sb e = absurd (let z : ◌≡◌ {A = ℕ} 0 1 = cc in omega arith)
+        subst (Stands R types ns l result) same (leaf_pair_stands R types R.product ns l p q u v (closed.product_value p q sa.held sb.held) sa sb)
+    leaves_stand (Leaf p) (Inner j) r sa sb e = absurd (none-some r e)
+    leaves_stand (Inner k) (Leaf q) r sa sb e = absurd (none-some r e)
+    leaves_stand (Inner k) (Inner j) r sa sb e = absurd (none-some r e)
 
     zero_stands : l ≤ length types → ((x : ℕ → Bool) → R.zero ≡ result x) → Stands R types ns l result (Leaf R.zero)
     zero_stands le e = stands_as R types ns l l (λ x. R.zero) result (Leaf R.zero) (omega arith) e (leaf_stands R types ns l R.zero closed.zero_value le)

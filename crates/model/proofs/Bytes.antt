@@ -1,22 +1,10 @@
 -- What holds of each byte of a list.
-use Rattle.std.proofs.Common.{◌≡◌, ℕ, zero, suc, ◌+◌, ◌<◌, ◌≤◌, Bool, true, false, ◌&&◌, List, [], ◌∷◌, ◌++◌, length, get_or, take, drop, replicate, sym, refl, ap, ◌∙◌, arith}
-use Rattle.std.proofs.lemmas.List.{at_drop_more, at_drop_all, take_more}
+use Rattle.std.proofs.Common.{◌≡◌, ℕ, zero, suc, ◌+◌, ◌<◌, Bool, true, ◌&&◌, List, [], ◌∷◌, ◌++◌, length, get_or, take, replicate, refl, ap, ◌∙◌, arith}
+use Rattle.std.proofs.lemmas.List.{take_more}
 use Rattle.std.proofs.lemmas.Bool.{and_parts, and_from}
 use Rattle.model.specs.Names.{every}
 
 module _ (test : ℕ → Bool) where
-  -- one byte more that passes, or one that does not
-  pub every_step : (xs : List ℕ) (i : ℕ) → i < length xs → test (get_or xs i 0) ≡ true → every test (drop i xs) ≡ every test xs → every test (drop (i + 1) xs) ≡ every test xs
-  every_step xs i lt passes so =
-      ap (λ t. t && every test (drop (i + 1) xs)) (sym passes) ∙ sym (at_drop_more (every test) xs i 0 lt) ∙ so
-
-  pub every_stop : (xs : List ℕ) (i : ℕ) → i < length xs → test (get_or xs i 0) ≡ false → every test (drop i xs) ≡ every test xs → false ≡ every test xs
-  every_stop xs i lt fails so =
-      ap (λ t. t && every test (drop (i + 1) xs)) (sym fails) ∙ sym (at_drop_more (every test) xs i 0 lt) ∙ so
-
-  pub every_end : (xs : List ℕ) (i : ℕ) → length xs ≤ i → every test (drop i xs) ≡ every test xs → true ≡ every test xs
-  every_end xs i le so = sym (at_drop_all (every test) xs i le) ∙ so
-
   pub every_at : (xs : List ℕ) (i : ℕ) → i < length xs → every test xs ≡ true → test (get_or xs i 0) ≡ true
   every_at [] i lt h = absurd (omega arith)
   every_at (x ∷ xs) zero lt h = (and_parts (test x) (every test xs) h).0

@@ -1,7 +1,11 @@
 -- What an order's fields say of its facts.
-use Rattle.std.proofs.Common.{◌≡◌, ℕ, ◌+◌, ◌<◌, true, false, List, [], ◌∷◌, ◌++◌, length, get_or, take, set, is_some, Some, None, Option, sym, ap, ◌∙◌, ⊎_elim, arith}
+use Rattle.std.proofs.Common.{◌≡◌, ℕ, ◌+◌, ◌<◌, Bool, true, false, not, ◌≤◌, List, [], ◌∷◌, ◌++◌, length, get_or, take, set, is_some, Some, None, Option, Decides, sym, ap, ◌∙◌, ⊎_elim, arith, rules}
 use Rattle.std.proofs.lemmas.List.{length-take-le, length-map, length_push, map-append, get_or_append_left, get_or_at, take_more_set, get_or-map, get_or-take}
-use Rattle.std.proofs.lemmas.Bool.{cases_lt, true≢false, false≢true}
+use Rattle.std.proofs.lemmas.Bool.{cases_lt, true≢false, false≢true, not-true}
+use Rattle.std.proofs.lemmas.Grind.{common_steps}
+use Rattle.std.proofs.lemmas.List.Quantifiers.{position-Some}
+use Rattle.std.proofs.lemmas.List.Sums.{prefix_len_passes}
+use Rattle.std.specs.List.{position, position_or_len}
 use Rattle.model.specs.Facts.{names, AllNamed, Different, Named, Finds}
 use Rattle.model.specs.Orders.{facts_of}
 use Rattle.model.specs.Spelling.{spelling}
@@ -52,6 +56,26 @@ module _ (fs : List Fact) (f : Fact) where
 
 pub facts_more : (order : Order) (f : Fact) → order.len < 40 → take (order.len + 1) (set order.facts order.len f) ≡ facts_of order ++ (f ∷ [])
 facts_more order f room = take_more_set order.facts order.len f (omega (arith, order.whole))
+
+-- where a search answers nothing, nothing passes
+none_passes : {X : Type 0} (p : X → Bool) (xs : List X) → position p xs ≡ None → (i : ℕ) (d : X) → i < length xs → p (get_or xs i d) ≡ false
+none_passes p xs e i d lt =
+    let past : length xs ≤ position_or_len p xs = grind (arith, common_steps) in
+    not-true _ (prefix_len_passes (λ x. not (p x)) xs i d (omega arith))
+
+-- a test that decides whether a fact has this name finds the first one that has it
+module _ (passes : Fact → Bool) (name : List ℕ) (decides : (f : Fact) → Decides (passes f) (spelling f.name ≡ name)) where
+  named_at : (fs : List Fact) (f : Fact) (i : ℕ) → i < length fs → get_or (names fs) i [] ≡ spelling (get_or fs i f).name
+  named_at fs f i lt = get_or-map (λ g. spelling g.name) fs i f [] lt
+
+  pub finds_first : (fs : List Fact) (o : Option ℕ) → position passes fs ≡ o → Finds fs name o
+  finds_first [] None e = λ (i, lt, same). absurd (omega arith)
+  finds_first [] (Some i) e = absurd (search rules)
+  finds_first (f ∷ fs) None e = λ (i, lt, same).
+      true≢false (sym ((decides _).1 (sym (named_at (f ∷ fs) f i lt) ∙ same)) ∙ none_passes passes (f ∷ fs) e i f lt)
+  finds_first (f ∷ fs) (Some i) e =
+      let at = position-Some passes (f ∷ fs) i f e in
+      (at.0, named_at (f ∷ fs) f i at.0 ∙ (decides _).0 at.1)
 
 -- what an answer of `find` says, by `is_some`
 pub when_found : (fs : List Fact) (name : List ℕ) (o : Option ℕ) → Finds fs name o → is_some o ≡ true → Named fs name

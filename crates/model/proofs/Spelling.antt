@@ -1,11 +1,13 @@
 -- What a name is written with, and that this says which name it is.
-use Rattle.std.proofs.Common.{◌≡◌, ℕ, ◌-◌, ◌<◌, ◌≤◌, Bool, true, eqb, List, [], ◌∷◌, ◌++◌, length, get_or, take, drop, replicate, Decides, sym, refl, ap, ◌∙◌, ⊎_elim, arith}
+use Rattle.std.proofs.Common.{◌≡◌, ℕ, ◌-◌, ◌<◌, ◌≤◌, Bool, true, ◌&&◌, ◌==◌, nat_eq, eqb, List, [], ◌∷◌, ◌++◌, length, get_or, take, drop, replicate, Decides, sym, refl, ap, ◌∙◌, ⊎_elim, arith}
 use mathlib.Core.Bool.{Bool-set}
 use mathlib.Core.HLevel.{is_prop→PathP}
 use native.Mathlib.Bridge.{le_prop}
 use native.Mathlib.Nat.{ℕ_set}
 use Rattle.std.proofs.lemmas.List.{length-take-le, length-drop, take-append-drop}
 use Rattle.std.proofs.lemmas.Bool.{and_parts, or_cases, eqb-true}
+use Rattle.std.proofs.lemmas.Bool.Decides.{Decides-and, Decides-eqb}
+use Rattle.std.specs.Cmp.Lexicographic.{bytes_decides, pointwise}
 use Rattle.model.specs.Names.{every, is_word_byte, is_name, holds_name}
 use Rattle.model.specs.Spelling.{spelling}
 use Rattle.model.specs.declared.name.Name.{Name}
@@ -59,6 +61,11 @@ held_alike xs ys m n w w' s s' f f' p q i = record {
 pub same_name : (a b : Name) → spelling a ≡ spelling b → a ≡ b
 same_name a b e = held_alike a.bytes b.bytes a.len b.len a.whole b.whole a.short b.short a.formed b.formed (same_bytes a b e) (same_len a b e)
 
--- what `==` at two names says of how they are written
-pub decides_spelling : (a b : Name) (r : Bool) → Decides r ((a.len ≡ b.len) × (a.bytes ≡ b.bytes)) → Decides r (spelling a ≡ spelling b)
-decides_spelling a b r (to, from) = (λ e. let both = to e in (λ i. take (both.0 i) (both.1 i)), λ e. from (same_len a b e, same_bytes a b e))
+-- what `==` at two names tests, and that it decides whether they are written alike
+abbrev pub alike : Name → Name → Bool
+alike a b = pointwise nat_eq a.bytes b.bytes && (a.len == b.len)
+
+pub alike_decides : (a b : Name) → Decides (alike a b) (spelling a ≡ spelling b)
+alike_decides a b =
+    let held : Decides (alike a b) ((a.bytes ≡ b.bytes) × (a.len ≡ b.len)) = Decides-and _ _ (bytes_decides a.bytes b.bytes) (Decides-eqb a.len b.len) in
+    (λ e. let both = held.0 e in (λ i. take (both.1 i) (both.0 i)), λ e. held.1 (same_bytes a b e, same_len a b e))

@@ -1,7 +1,8 @@
 -- The kinds of gates, and the gates of each kind.
-use Rattle.std.specs.Prelude.{◌≡◌, ℕ, List, [], ◌∷◌, Some, None, codes, Option, ◌≢◌}
+use Rattle.std.specs.Prelude.{◌≡◌, ℕ, List, [], ◌∷◌, Ok, Err, codes, Result, ◌≢◌}
 use Rattle.model.specs.declared.gate.Gate.{Gate}
 use Rattle.model.specs.declared.gate.GateKind.{GateKind}
+use Rattle.model.specs.declared.gate.UnknownKind.{UnknownKind}
 use Rattle.model.specs.declared.gate.GateKind.TheVariants.{Const, Sum, Times, Minus, Not, Or}
 
 abbrev pub kind_number : GateKind → ℕ
@@ -13,9 +14,9 @@ kind_number Not = 5
 kind_number Or = 6
 
 -- the kind that has a number, if one has
-abbrev pub Numbered : ℕ → Option GateKind → Type 0
-Numbered n None = (k : GateKind) → kind_number k ≢ n
-Numbered n (Some k) = kind_number k ≡ n
+abbrev pub Numbered : ℕ → Result GateKind UnknownKind → Type 0
+Numbered n (Err e) = (k : GateKind) → kind_number k ≢ n
+Numbered n (Ok k) = kind_number k ≡ n
 
 abbrev pub word_of : GateKind → List ℕ
 word_of Const = codes "const"
@@ -26,9 +27,9 @@ word_of Not = codes "not"
 word_of Or = codes "or"
 
 -- the kind that a word names, if it names one
-abbrev pub Worded : List ℕ → Option GateKind → Type 0
-Worded word None = (k : GateKind) → word ≢ word_of k
-Worded word (Some k) = word ≡ word_of k
+abbrev pub Worded : List ℕ → Result GateKind UnknownKind → Type 0
+Worded word (Err e) = (k : GateKind) → word ≢ word_of k
+Worded word (Ok k) = word ≡ word_of k
 
 -- the arguments that a kind uses
 abbrev pub arguments_of : GateKind → ℕ → ℕ → List ℕ

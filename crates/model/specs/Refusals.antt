@@ -1,6 +1,8 @@
 -- The number and the layer of each refusal.
 use Rattle.std.specs.Prelude.{ℕ}
 use Rattle.model.specs.declared.fault.Fault.{Fault}
+use Rattle.model.specs.declared.fault.Layer.{Layer}
+use Rattle.model.specs.declared.fault.Layer.TheVariants.{Reading, Checking, Building, Asking}
 use Rattle.model.specs.declared.fault.Refusal.{Refusal}
 use Rattle.model.specs.declared.fault.Refusal.TheVariants.{TextTooLong, BadByte, BadHeading, WrongVersion, TooFewNameCells, TooManyBrackets, NoForm, UnknownName, NamedTwice, SheetTooLarge, TooManyFacts, NetTooLarge, BadGate, BadConstant, BadOutput, StoreFull, BadRoot, BadAssignment, ListTooShort}
 
@@ -25,7 +27,14 @@ number_of BadRoot = 17
 number_of BadAssignment = 18
 number_of ListTooShort = 19
 
--- 1 reading, 2 checking a net, 3 building, 4 asking about a diagram
+-- the number of each layer
+abbrev pub layer_number : Layer → ℕ
+layer_number Reading = 1
+layer_number Checking = 2
+layer_number Building = 3
+layer_number Asking = 4
+
+-- the number of the layer that refuses: 1 reading, 2 checking a net, 3 building, 4 asking about a diagram
 abbrev pub layer_of : Refusal → ℕ
 layer_of TextTooLong = 1
 layer_of BadByte = 1

@@ -1,93 +1,106 @@
 ghost use Rattle.std.specs.Prelude.{◌≡◌};
-ghost use Rattle.model.specs.Refusals.{number_of, layer_of, fault};
+ghost use Rattle.model.specs.Refusals.{fault, layer_number, layer_of, number_of};
 
-/// Why a call is turned down.
-#[derive(Clone, Copy)]
+/// Why a call is turned down. A refusal is told by its number.
+#[derive(Clone, Copy, Debug, PartialEq, Eq)]
 pub enum Refusal {
     /// The text is longer than 65,535 bytes.
-    TextTooLong,
+    TextTooLong = 1,
     /// A byte is neither a newline nor a printable ASCII character.
-    BadByte,
+    BadByte = 2,
     /// The first line is not the sheet's mark, a space and a 16-bit number.
-    BadHeading,
+    BadHeading = 3,
     /// The version is not 1.
-    WrongVersion,
+    WrongVersion = 4,
     /// The name cells that are lent are fewer than the facts.
-    TooFewNameCells,
+    TooFewNameCells = 5,
     /// A line has more than 32 tokens `(` and `!` together.
-    TooManyBrackets,
+    TooManyBrackets = 6,
     /// A line has none of the forms of its sheet.
-    NoForm,
+    NoForm = 7,
     /// An argument or an output is no fact and no earlier definition.
-    UnknownName,
+    UnknownName = 8,
     /// A name is defined a second time, or an output is listed a second time.
-    NamedTwice,
+    NamedTwice = 9,
     /// A line's gates, name or output exceed the list that is lent for them.
-    SheetTooLarge,
+    SheetTooLarge = 10,
     /// It would be the 41st fact.
-    TooManyFacts,
+    TooManyFacts = 11,
     /// The signal or root list is too short for the net, or the net has too many gates.
-    NetTooLarge,
+    NetTooLarge = 12,
     /// A gate has an unknown kind, or an argument that is no earlier signal.
-    BadGate,
+    BadGate = 13,
     /// A gate has a constant that is no value of the arithmetic.
-    BadConstant,
+    BadConstant = 14,
     /// An output is no signal.
-    BadOutput,
+    BadOutput = 15,
     /// A node is to be added to a full store.
-    StoreFull,
+    StoreFull = 16,
     /// A root is no value and no node that is held.
-    BadRoot,
+    BadRoot = 17,
     /// The assignment has a bit beyond the facts.
-    BadAssignment,
+    BadAssignment = 18,
     /// A list that is lent is shorter than the nodes that are held.
-    ListTooShort,
+    ListTooShort = 19,
+}
+
+/// What the checker was doing when it turned a call down.
+#[derive(Clone, Copy, Debug, PartialEq, Eq)]
+pub enum Layer {
+    /// Reading a sheet.
+    Reading = 1,
+    /// Checking a net.
+    Checking = 2,
+    /// Building a diagram.
+    Building = 3,
+    /// Asking about a diagram.
+    Asking = 4,
 }
 
 /// A refusal with the place that it is about: a byte of the text, a gate, an output or a root, else 0.
-#[derive(Clone, Copy)]
+#[derive(Clone, Copy, Debug, PartialEq, Eq)]
 pub struct Fault {
     pub refusal: Refusal,
     pub place: usize,
 }
 
+impl From<Refusal> for u8 {
+    ghost from_gives = { λ refusal number. number ≡ number_of refusal };
+
+    fn from(refusal: Refusal) -> u8 {
+        refusal as u8
+    }
+}
+
+impl From<Layer> for u8 {
+    ghost from_gives = { λ layer number. number ≡ layer_number layer };
+
+    fn from(layer: Layer) -> u8 {
+        layer as u8
+    }
+}
+
 impl Refusal {
-    /// The number by which the refusal is told.
-    pub fn number(self) -> u8
-        ensures { result ≡ number_of self }
+    /// The layer that refuses.
+    pub fn layer(self) -> Layer
+        ensures { layer_number result ≡ layer_of self }
     {
         match self {
-            Refusal::TextTooLong => 1,
-            Refusal::BadByte => 2,
-            Refusal::BadHeading => 3,
-            Refusal::WrongVersion => 4,
-            Refusal::TooFewNameCells => 5,
-            Refusal::TooManyBrackets => 6,
-            Refusal::NoForm => 7,
-            Refusal::UnknownName => 8,
-            Refusal::NamedTwice => 9,
-            Refusal::SheetTooLarge => 10,
-            Refusal::TooManyFacts => 11,
-            Refusal::NetTooLarge => 12,
-            Refusal::BadGate => 13,
-            Refusal::BadConstant => 14,
-            Refusal::BadOutput => 15,
-            Refusal::StoreFull => 16,
-            Refusal::BadRoot => 17,
-            Refusal::BadAssignment => 18,
-            Refusal::ListTooShort => 19,
-        }
-    }
-
-    /// The layer that refuses: 1 reading, 2 checking a net, 3 building, 4 asking about a diagram.
-    pub fn layer(self) -> u8
-        ensures { result ≡ layer_of self }
-    {
-        match self.number() {
-            0..=11 => 1,
-            12..=15 => 2,
-            16 => 3,
-            _ => 4,
+            Refusal::TextTooLong
+            | Refusal::BadByte
+            | Refusal::BadHeading
+            | Refusal::WrongVersion
+            | Refusal::TooFewNameCells
+            | Refusal::TooManyBrackets
+            | Refusal::NoForm
+            | Refusal::UnknownName
+            | Refusal::NamedTwice
+            | Refusal::SheetTooLarge
+            | Refusal::TooManyFacts => Layer::Reading,
+            Refusal::NetTooLarge | Refusal::BadGate | Refusal::BadConstant | Refusal::BadOutput =>
+                Layer::Checking,
+            Refusal::StoreFull => Layer::Building,
+            Refusal::BadRoot | Refusal::BadAssignment | Refusal::ListTooShort => Layer::Asking,
         }
     }
 

@@ -1,20 +1,24 @@
-ghost use Rattle.std.specs.Prelude.{◌≡◌, ℕ, length};
+ghost use Rattle.std.specs.Prelude.{◌≡◌, ℕ, length, Some, codes};
 ghost use Rattle.model.specs.Gates.{arguments_of, constant_gate, empty_gate, kind_number, one_argument, two_arguments, word_of, Numbered, Worded};
 
+use std::error::Error;
+use std::fmt;
+
 /// What a gate does with its arguments.
-#[derive(Clone, Copy)]
+#[derive(Clone, Copy, Debug, PartialEq, Eq)]
 pub enum GateKind {
-    Const,
-    Sum,
-    Times,
-    Minus,
-    Not,
-    Or,
+    Const = 1,
+    Sum = 2,
+    Times = 3,
+    Minus = 4,
+    Not = 5,
+    Or = 6,
 }
 
 /// A gate of a net: its kind by number, a constant's number, and two arguments, which are signals.
+/// The kind is a number, since a net may come from anywhere, and one of no kind is refused when it is checked.
 /// The fields may hold anything; those that the kind does not use are 0 when a sheet is read.
-#[derive(Clone, Copy)]
+#[derive(Clone, Copy, Debug, PartialEq, Eq)]
 pub struct Gate {
     pub kind: u8,
     pub number: u32,
@@ -22,65 +26,83 @@ pub struct Gate {
     pub second: u32,
 }
 
-impl GateKind {
-    /// The number by which a gate tells its kind.
-    pub fn number(self) -> u8
-        ensures { result ≡ kind_number self }
-    {
-        match self {
-            GateKind::Const => 1,
-            GateKind::Sum => 2,
-            GateKind::Times => 3,
-            GateKind::Minus => 4,
-            GateKind::Not => 5,
-            GateKind::Or => 6,
-        }
-    }
+/// A number that is no kind's, or a word that is none's.
+#[derive(Clone, Copy, Debug, PartialEq, Eq)]
+pub struct UnknownKind;
 
-    /// The kind that has a number, if one has.
-    pub fn from_number(number: u8) -> Option<GateKind>
-        ensures { Numbered number result }
-    {
+impl From<GateKind> for u8 {
+    ghost from_gives = { λ kind number. number ≡ kind_number kind };
+
+    fn from(kind: GateKind) -> u8 {
+        kind as u8
+    }
+}
+
+// A gate tells its kind by number.
+impl TryFrom<u8> for GateKind {
+    type Error = UnknownKind;
+
+    ghost try_from_gives = { Numbered };
+
+    fn try_from(number: u8) -> Result<GateKind, UnknownKind> {
         match number {
-            1 => Some(GateKind::Const),
-            2 => Some(GateKind::Sum),
-            3 => Some(GateKind::Times),
-            4 => Some(GateKind::Minus),
-            5 => Some(GateKind::Not),
-            6 => Some(GateKind::Or),
-            _ => None,
+            1 => Ok(GateKind::Const),
+            2 => Ok(GateKind::Sum),
+            3 => Ok(GateKind::Times),
+            4 => Ok(GateKind::Minus),
+            5 => Ok(GateKind::Not),
+            6 => Ok(GateKind::Or),
+            _ => Err(UnknownKind),
         }
     }
+}
 
-    /// The word that a gate sheet writes.
-    pub fn word(self) -> &'static str
-        ensures { result.now ≡ word_of self }
-    {
-        match self {
+// A gate sheet tells it by a word.
+impl<'a> TryFrom<&'a [u8]> for GateKind {
+    type Error = UnknownKind;
+
+    ghost try_from_gives = { λ word kind. Worded word.now kind };
+
+    fn try_from(word: &'a [u8]) -> Result<GateKind, UnknownKind> {
+        match word {
+            b"const" => Ok(GateKind::Const),
+            b"sum" => Ok(GateKind::Sum),
+            b"times" => Ok(GateKind::Times),
+            b"minus" => Ok(GateKind::Minus),
+            b"not" => Ok(GateKind::Not),
+            b"or" => Ok(GateKind::Or),
+            _ => Err(UnknownKind),
+        }
+    }
+}
+
+// The word that a gate sheet writes.
+impl fmt::Display for GateKind {
+    ghost output = { λ kind. Some (word_of kind) };
+
+    fn fmt<W: fmt::Write>(&self, f: &mut fmt::Formatter<W>) -> fmt::Result {
+        f.write_str(match self {
             GateKind::Const => "const",
             GateKind::Sum => "sum",
             GateKind::Times => "times",
             GateKind::Minus => "minus",
             GateKind::Not => "not",
             GateKind::Or => "or",
-        }
+        })
     }
+}
 
-    /// The kind that a word names, if it names one.
-    pub fn from_word(word: &[u8]) -> Option<GateKind>
-        ensures { Worded word.now result }
-    {
-        match word {
-            b"const" => Some(GateKind::Const),
-            b"sum" => Some(GateKind::Sum),
-            b"times" => Some(GateKind::Times),
-            b"minus" => Some(GateKind::Minus),
-            b"not" => Some(GateKind::Not),
-            b"or" => Some(GateKind::Or),
-            _ => None,
-        }
+impl fmt::Display for UnknownKind {
+    ghost output = { λ _. Some (codes "no kind of gate") };
+
+    fn fmt<W: fmt::Write>(&self, f: &mut fmt::Formatter<W>) -> fmt::Result {
+        f.write_str("no kind of gate")
     }
+}
 
+impl Error for UnknownKind {}
+
+impl GateKind {
     /// How many arguments a gate of this kind uses.
     pub fn arity(self) -> usize
         ensures { (a b : ℕ) → result ≡ length (arguments_of self a b) }
@@ -111,7 +133,7 @@ impl Gate {
         ensures { result ≡ constant_gate number }
     {
         Gate {
-            kind: GateKind::Const.number(),
+            kind: GateKind::Const.into(),
             number,
             first: 0,
             second: 0,
@@ -123,7 +145,7 @@ impl Gate {
         ensures { result ≡ one_argument kind argument }
     {
         Gate {
-            kind: kind.number(),
+            kind: kind.into(),
             number: 0,
             first: argument,
             second: 0,
@@ -135,7 +157,7 @@ impl Gate {
         ensures { result ≡ two_arguments kind first second }
     {
         Gate {
-            kind: kind.number(),
+            kind: kind.into(),
             number: 0,
             first,
             second,

@@ -14,9 +14,9 @@ mod root;
 
 pub use decomposition::Decomposition;
 pub use fact::Fact;
-pub use fault::{Fault, Refusal};
-pub use gate::{Gate, GateKind};
-pub use name::{Name, is_word_byte};
+pub use fault::{Fault, Layer, Refusal};
+pub use gate::{Gate, GateKind, UnknownKind};
+pub use name::{Name, NotAName, is_word_byte};
 pub use node::Node;
 pub use order::Order;
 pub use output::Output;

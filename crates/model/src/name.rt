@@ -3,14 +3,15 @@ ghost use Rattle.model.specs.Names.{holds_name};
 
 mod ops;
 
-pub use ops::is_word_byte;
+pub use ops::{NotAName, is_word_byte};
 
 /// The most bytes that a name can have.
 const MAX_LENGTH: usize = 16;
 
 /// A name as a sheet has it, or the empty name. The bytes past its length are 0.
-#[derive(Clone, Copy)]
+#[derive(Clone, Copy, Debug, PartialEq, Eq)]
 pub struct Name {
+    // an array and a length, since a name is `Copy`, which an `ArrayVec` is not
     bytes: [u8; MAX_LENGTH],
     len: usize,
     ghost whole: { length bytes ≡ 16 },

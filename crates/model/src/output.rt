@@ -5,7 +5,7 @@ ghost use Rattle.model.specs.Spelling.{spelling};
 use crate::name::Name;
 
 /// A named output of a net: the signal that it gives.
-#[derive(Clone, Copy)]
+#[derive(Clone, Copy, Debug, PartialEq, Eq)]
 pub struct Output {
     pub name: Name,
     pub signal: u32,

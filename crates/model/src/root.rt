@@ -2,13 +2,14 @@ ghost use Rattle.std.specs.Prelude.{◌≡◌};
 ghost use Rattle.model.specs.Roots.{case_number};
 
 /// Where an edge of a diagram leads: to a node, by its number, or to a leaf, which holds a value.
-#[derive(Clone, Copy, PartialEq, Eq)]
+#[derive(Clone, Copy, Debug, PartialEq, Eq)]
 pub enum Root {
     Inner(u32),
     Leaf(u32),
 }
 
 impl Root {
+    // A match, since a case with a field cannot be cast to its discriminant.
     /// The number of the case: 0 for a node, 1 for a leaf.
     pub fn case(self) -> u8
         ensures { result ≡ case_number self }

@@ -1,4 +1,4 @@
-use arithmetic::{Amounts, evaluate, output_value};
+use arithmetic::{Amounts, Net, Signals};
 use model::{Gate, GateKind, Order, Output};
 use sheets::{Notation, read_order, read_rules};
 use table::Cell;
@@ -20,10 +20,20 @@ fn amount(text: &[u8]) -> Option<u32> {
         &mut outputs,
     )
     .ok()?;
-    let (net, _) = gates.split_at_checked(counts.gates)?;
+    let (gates, _) = gates.split_at_checked(counts.gates)?;
+    let net = Net {
+        facts: 3,
+        gates,
+        outputs: &outputs,
+    };
     let mut values = [0; 40];
-    evaluate::<Amounts>(3, net, &outputs, 5, &mut values).ok()?;
-    output_value::<Amounts>(3, 5, &values, &outputs[0])
+    net.evaluate::<Amounts>(5, &mut values).ok()?;
+    let signals = Signals {
+        facts: 3,
+        assignment: 5,
+        values: &values,
+    };
+    signals.output_value::<Amounts>(&outputs[0])
 }
 
 #[test]

@@ -2,6 +2,8 @@
 #![tactic(auto)]
 
 #[cfg(test)]
+mod cases;
+#[cfg(test)]
 mod formula_sheets;
 #[cfg(test)]
 mod formula_values;

@@ -1,19 +1,12 @@
 -- Each `(` and `!` of a line is a token of its own.
-use Rattle.std.proofs.Common.{◌≡◌, ℕ, ◌+◌, ◌<◌, Bool, true, false, cond, eqb, List, [], ◌∷◌, length, get_or, drop, sym, refl, ap, ◌∙◌, subst, ⊎_elim, arith}
-use Rattle.std.proofs.lemmas.List.{at_drop_more}
+use Rattle.std.proofs.Common.{◌≡◌, ℕ, ◌+◌, Bool, true, false, cond, eqb, List, [], ◌∷◌, sym, refl, ap, ◌∙◌, subst, ⊎_elim, arith}
 use Rattle.std.proofs.lemmas.Bool.{cases_Bool, eqb-true, eqb-false, cond-true, cond-false}
 use Rattle.std.proofs.lemmas.Bool.Decides.{nat_tests}
+use Rattle.std.specs.List.{count_by}
+use Rattle.std.proofs.lemmas.List.Sums.{sum_by-cons}
 use Rattle.model.specs.Names.{begins, is_word_byte}
-use Rattle.sheets.specs.Tokens.{tokens, joined_to, is_bracket, brackets}
+use Rattle.sheets.specs.Tokens.{tokens, joined_to, is_bracket, brackets, opens_deeper}
 use Rattle.sheets.proofs.Words.{tokens_space, tokens_single, tokens_joined, tokens_last}
-
--- the byte is such a token
-abbrev pub opens_deeper : ℕ → Bool
-opens_deeper b = is_bracket (b ∷ [])
-
-abbrev pub bracket_bytes : List ℕ → ℕ
-bracket_bytes [] = 0
-bracket_bytes (b ∷ bs) = cond (opens_deeper b) (1 + bracket_bytes bs) (bracket_bytes bs)
 
 space_opens_none : (b : ℕ) → eqb b 32 ≡ true → opens_deeper b ≡ false
 space_opens_none b h = grind (arith, nat_tests)
@@ -50,10 +43,22 @@ joined_brackets : (b : ℕ) (ts : List (List ℕ)) → is_word_byte b ≡ true �
 joined_brackets b ts h (c, w, ws, e, k) =
     ap (λ us. brackets (joined_to b us)) e ∙ brackets_none (b ∷ c ∷ w) ws refl ∙ sym (brackets_none (c ∷ w) ws (word_no_bracket c w k)) ∙ ap brackets (sym e)
 
-pub brackets_bytes : (bs : List ℕ) → brackets (tokens bs) ≡ bracket_bytes bs
+counted : (b : ℕ) (bs : List ℕ) → cond (opens_deeper b) (1 + count_by opens_deeper bs) (count_by opens_deeper bs) ≡ count_by opens_deeper (b ∷ bs)
+counted b bs =
+    let n = count_by opens_deeper bs in
+    let total = sum_by-cons (λ c. cond (opens_deeper c) 1 0) b bs in
+    ⊎_elim
+    (λ yes. omega (arith, total, cond-true {A = ℕ} (opens_deeper b) 1 0 yes, cond-true (opens_deeper b) (1 + n) n yes))
+    (λ no. omega (arith, total, cond-false {A = ℕ} (opens_deeper b) 1 0 no, cond-false (opens_deeper b) (1 + n) n no))
+    (cases_Bool (opens_deeper b))
+
+counted_not : (b : ℕ) (bs : List ℕ) → opens_deeper b ≡ false → count_by opens_deeper (b ∷ bs) ≡ count_by opens_deeper bs
+counted_not b bs h = sym (counted b bs) ∙ cond-false (opens_deeper b) (1 + count_by opens_deeper bs) (count_by opens_deeper bs) h
+
+pub brackets_bytes : (bs : List ℕ) → brackets (tokens bs) ≡ count_by opens_deeper bs
 brackets_bytes [] = refl
 brackets_bytes (b ∷ bs) =
-    let none : opens_deeper b ≡ false → bracket_bytes (b ∷ bs) ≡ bracket_bytes bs = cond-false (opens_deeper b) (1 + bracket_bytes bs) (bracket_bytes bs) in
+    let none : opens_deeper b ≡ false → count_by opens_deeper (b ∷ bs) ≡ count_by opens_deeper bs = counted_not b bs in
     ⊎_elim
     (λ space. ap brackets (tokens_space b bs (eqb-true b 32 space)) ∙ brackets_bytes bs ∙ sym (none (space_opens_none b space)))
     (λ other.
@@ -65,17 +70,6 @@ brackets_bytes (b ∷ bs) =
     (cases_Bool (begins is_word_byte bs)))
     (λ single.
     ap brackets (tokens_single b bs (eqb-false b 32 other) single)
-    ∙ ap (λ n. cond (opens_deeper b) (1 + n) n) (brackets_bytes bs))
+    ∙ ap (λ n. cond (opens_deeper b) (1 + n) n) (brackets_bytes bs) ∙ counted b bs)
     (cases_Bool (is_word_byte b)))
     (cases_Bool (eqb b 32))
-
--- one byte more is counted
-pub count_more : (xs : List ℕ) (i count : ℕ) → i < length xs → opens_deeper (get_or xs i 0) ≡ true → count + bracket_bytes (drop i xs) ≡ bracket_bytes xs → count + 1 + bracket_bytes (drop (i + 1) xs) ≡ bracket_bytes xs
-count_more xs i count lt h so =
-    let step = at_drop_more bracket_bytes xs i 0 lt ∙ cond-true (opens_deeper (get_or xs i 0)) (1 + bracket_bytes (drop (i + 1) xs)) (bracket_bytes (drop (i + 1) xs)) h in
-    omega (arith, step)
-
-pub count_same : (xs : List ℕ) (i count : ℕ) → i < length xs → opens_deeper (get_or xs i 0) ≡ false → count + bracket_bytes (drop i xs) ≡ bracket_bytes xs → count + bracket_bytes (drop (i + 1) xs) ≡ bracket_bytes xs
-count_same xs i count lt h so =
-    let step = at_drop_more bracket_bytes xs i 0 lt ∙ cond-false (opens_deeper (get_or xs i 0)) (1 + bracket_bytes (drop (i + 1) xs)) (bracket_bytes (drop (i + 1) xs)) h in
-    omega (arith, step)

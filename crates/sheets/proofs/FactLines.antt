@@ -1,5 +1,5 @@
 -- Which lines of an order sheet have a form.
-use Rattle.std.proofs.Common.{◌≡◌, ℕ, List, [], ◌∷◌, drop, Err, sym, refl, ap, ◌∙◌}
+use Rattle.std.proofs.Common.{◌≡◌, ℕ, List, [], ◌∷◌, drop, ◌≤◌, Ok, Err, MatchResult, Result, sym, refl, ap, ◌∙◌}
 use Rattle.model.specs.Letters.{letter_of}
 use Rattle.model.specs.Orders.{Adds, nameless, known, full}
 use Rattle.model.specs.Spelling.{spelling}
@@ -7,8 +7,11 @@ use Rattle.model.specs.declared.decomposition.Decomposition.{Decomposition}
 use Rattle.model.specs.declared.fact.Fact.{Fact}
 use Rattle.model.specs.declared.fault.Refusal.{Refusal}
 use Rattle.model.specs.declared.name.Name.{Name}
-use Rattle.sheets.specs.OrderSheets.{FactLine}
-use Rattle.sheets.specs.Tokens.{Next}
+use Rattle.model.specs.Refusals.{fault}
+use Rattle.model.specs.declared.fault.Fault.{Fault}
+use Rattle.sheets.specs.Lines.{Line}
+use Rattle.sheets.specs.OrderSheets.{FactLine, FactStep, StepRefused, turned_down, taken}
+use Rattle.sheets.specs.Tokens.{brackets, Next, tokens}
 use Rattle.sheets.specs.declared.token.Token.TheVariants.{LineEnd, Identifier, TypeLetter}
 
 module _ (ts : List (List ℕ)) where
@@ -38,3 +41,10 @@ pub kept_if_refused : (fs gs : List Fact) (f : Fact) (refusal : Refusal) → Add
 kept_if_refused fs _ f _ (nameless h) = nameless h
 kept_if_refused fs _ f _ (known h k) = known h k
 kept_if_refused fs _ f _ (full h k l) = full h k l
+
+-- the line of a fact, by what the order answers
+pub fact_answered : (fs gs : List Fact) (f : Fact) (l : Line) (place : ℕ) → place ≡ l.first → brackets (tokens l.bytes) ≤ 32 → FactLine (tokens l.bytes) f
+    → (answer : Result (Unit {0}) Refusal) (r : Result (Unit {0}) Fault) → Adds fs f answer gs → MatchResult answer (λ x. r ≡ Ok x) (λ refusal. r ≡ Err (fault refusal place))
+    → MatchResult r (λ _. FactStep fs (tokens l.bytes) (Ok gs)) (λ e. StepRefused fs l e)
+fact_answered fs gs f l place at few form (Ok x) r adds is = rw is (taken few f gs form adds)
+fact_answered fs gs f l place at few form (Err refusal) r adds is = rw is (refusal, ap (fault refusal) at, turned_down few f refusal form (kept_if_refused fs gs f refusal adds))

@@ -108,31 +108,31 @@ part_some (less p t) = omega (arith, length-append (spell_part p) ((45 ∷ []) �
 -- ---- what is left is enough
 
 -- for what follows a sign, and two gates more
-pub record Enough (left : ℕ) (d : Draft) (ts : Tokens) : Type 0 where
-  pub few : brackets ts ≤ left
+pub record Enough (before : Tokens) (d : Draft) (ts : Tokens) : Type 0 where
+  pub few : brackets ts ≤ brackets before
   pub signals : d.facts + d.gate_count + 2 * length ts + 2 < 2 ^ 32
 
-module _ (ss : List Symbol) (left : ℕ) (d : Draft) (ts : Tokens) (few : brackets ts ≤ left) (signals : Signals d ts) where
+module _ (ss : List Symbol) (d : Draft) (ts : Tokens) (signals : Signals d ts) where
   still : (made : Making) (ws : List Word) (s : ℕ) (d₁ : Draft) (spelled after : Tokens) → Drawn ss d made ws s d₁ → length (over d made).gates ≤ 2 * length spelled → ts ≡ spelled ++ after → Signals d₁ after
   still made ws s d₁ spelled after drawn small e = omega (arith, signals, drawn.count, drawn.others.facts, small, ap length e ∙ length-append spelled after)
 
-  after_sign : (made : Making) (ws : List Word) (s c : ℕ) (d₁ : Draft) (spelled after rest : Tokens) → Drawn ss d made ws s d₁ → length (over d made).gates ≤ 2 * length spelled → ts ≡ spelled ++ after → after ≡ (c ∷ []) ∷ rest → Enough left d₁ rest
+  after_sign : (made : Making) (ws : List Word) (s c : ℕ) (d₁ : Draft) (spelled after rest : Tokens) → Drawn ss d made ws s d₁ → length (over d made).gates ≤ 2 * length spelled → ts ≡ spelled ++ after → after ≡ (c ∷ []) ∷ rest → Enough ts d₁ rest
   after_sign made ws s c d₁ spelled after rest drawn small e is =
       let all = ap brackets e ∙ brackets_append spelled after in
       let fewer = tail_fewer after (c ∷ []) rest is in
-      record { few = omega (arith, few, all, fewer.few); signals = omega (arith, still made ws s d₁ spelled after drawn small e, ap length is) }
+      record { few = omega (arith, all, fewer.few); signals = omega (arith, still made ws s d₁ spelled after drawn small e, ap length is) }
 
   module _ (s : ℕ) (rest : Tokens) (d₁ : Draft) where
-    pub enough_times : ReadTerm ss d ts s Times rest d₁ → Enough left d₁ rest
+    pub enough_times : ReadTerm ss d ts s Times rest d₁ → Enough ts d₁ rest
     enough_times read = after_sign _ _ s 42 d₁ (spell_term read.term) read.after rest read.drawn (few_term (signal_or_zero ss) read.term _) read.tokens read.next
 
-    pub enough_plus : ReadPart ss d ts s Plus rest d₁ → Enough left d₁ rest
+    pub enough_plus : ReadPart ss d ts s Plus rest d₁ → Enough ts d₁ rest
     enough_plus read = after_sign _ _ s 43 d₁ (spell_part read.part) read.after rest read.drawn (few_part (signal_or_zero ss) read.part _) read.tokens read.next
 
-    pub enough_minus : ReadPart ss d ts s Minus rest d₁ → Enough left d₁ rest
+    pub enough_minus : ReadPart ss d ts s Minus rest d₁ → Enough ts d₁ rest
     enough_minus read = after_sign _ _ s 45 d₁ (spell_part read.part) read.after rest read.drawn (few_part (signal_or_zero ss) read.part _) read.tokens read.next
 
-    pub enough_or : ReadFormula ss d ts s Or rest d₁ → Enough left d₁ rest
+    pub enough_or : ReadFormula ss d ts s Or rest d₁ → Enough ts d₁ rest
     enough_or read = after_sign _ _ s 124 d₁ (spell read.formula) read.after rest read.drawn (few_formula (signal_or_zero ss) read.formula _) read.tokens read.next
 
 -- reading on makes at most two gates for each token

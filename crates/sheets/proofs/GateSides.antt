@@ -1,7 +1,8 @@
 -- The right-hand sides of gate sheets.
-use Rattle.std.proofs.Common.{◌≡◌, ℕ, ◌-◌, ◌<◌, Bool, true, false, cond, not, ◌&&◌, ◌||◌, eqb, List, [], ◌∷◌, ◌++◌, length, get_or, take, replicate, Ok, Err, decimal, Result, sym, refl, ap, ◌∙◌, subst, arith, MatchResult}
-use Rattle.std.proofs.lemmas.List.{drop_at, length-append, length-replicate, take_all, take_at}
-use Rattle.model.proofs.Names.{copied_holds, Copied, name_short}
+use Rattle.std.proofs.Common.{◌≡◌, ℕ, ◌-◌, ◌<◌, Bool, true, false, cond, not, ◌&&◌, ◌||◌, eqb, List, [], ◌∷◌, ◌++◌, length, get_or, replicate, Ok, Err, decimal, Result, sym, refl, ap, ◌∙◌, subst, arith, MatchResult}
+use Rattle.std.proofs.lemmas.List.{length-append, length-replicate, take_at}
+use Rattle.model.proofs.Bytes.{every_replicate}
+use Rattle.model.proofs.Names.{name_short, padded_holds}
 use Rattle.model.specs.Gates.{constant_gate, word_of}
 use Rattle.model.specs.Names.{is_name}
 use Rattle.model.specs.Refusals.{fault}
@@ -26,9 +27,8 @@ named word h =
     let bytes = word ++ replicate (16 - length word) 0 in
     let short = name_short word h in
     let long : length bytes ≡ 16 = omega (arith, length-append word (replicate (16 - length word) 0), length-replicate {A = ℕ} (16 - length word) 0) in
-    let front : take (length word) bytes ≡ take (length word) word = take_at word _ (length word) refl ∙ sym (take_all (length word) word (omega arith)) in
-    let copied : Copied word (length word) bytes = (long, front, drop_at word _ (length word) refl) in
-    (record { bytes = bytes; len = length word; whole = long; short = short; formed = copied_holds word bytes (length word) refl copied h }, take_at word _ (length word) refl)
+    let zeros = every_replicate (eqb 0) (16 - length word) 0 refl in
+    (record { bytes = bytes; len = length word; whole = long; short = short; formed = padded_holds word (replicate (16 - length word) 0) h zeros }, take_at word _ (length word) refl)
 
 -- ---- gate words
 
@@ -144,6 +144,6 @@ from_constant ss d k ts line (Ok g) is (n, tokens, made) = record {
   side = constant n;
   tokens = λ i. word_of (is i) ∷ tokens i;
   made = made;
-  noted = record { unknown = noted_none d.unknown; gates = refl; count = refl; others = record { outputs = refl; output_count = refl; facts = refl } };
+  noted = record { unknown = noted_none d.unknown; gates = refl; count = refl; others = record { names = refl; outputs = refl; output_count = refl; facts = refl } };
 }
 from_constant ss d k ts line (Err f) is (e, none) = (e, no_constant k ts (ap arity_of is) none)

@@ -1,10 +1,10 @@
 pub mod Atoms
 pub mod Bracketing
 pub mod Chains
-pub mod Cursors
 pub mod DigitLines
 pub mod Drafts
 pub mod FactLines
+pub mod Firsts
 pub mod FormulaDrafts
 pub mod FormulaLaws
 pub mod FormulaSpelling
@@ -20,13 +20,14 @@ pub mod Marks
 pub mod NextToken
 pub mod Numerals
 pub mod OrderVerdicts
+pub mod Placed
+pub mod Rests
 pub mod RuleLines
 pub mod RuleVerdicts
 pub mod SheetWorth
 pub mod SignalNames
 pub mod Signs
 pub mod Spaced
-pub mod Spans
 pub mod TokenCounts
 pub mod Verdicts
 pub mod Words

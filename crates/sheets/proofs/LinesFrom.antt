@@ -1,60 +1,68 @@
--- Where the lines of a text begin and end.
-use Rattle.std.proofs.Common.{◌≡◌, ℕ, zero, suc, ◌+◌, ◌-◌, ◌<◌, ◌≤◌, List, [], ◌∷◌, length, get_or, drop, sym, ap, ◌∙◌, ⊎_elim, arith}
-use Rattle.std.proofs.lemmas.List.{drop_more, drop_all}
-use Rattle.std.proofs.lemmas.Bool.{cases_lt, ne_eqb, eq-eqb, cond-true, cond-false}
-use Rattle.sheets.specs.Lines.{Line, line_at, in_front, lines_from, heading, later, span, EndsAt}
-use Rattle.sheets.proofs.Spans.{span_first, span_none}
+-- The lines of a text whose first line is known.
+use Rattle.std.proofs.Common.{◌≡◌, ℕ, ◌+◌, ◌-◌, ◌<◌, ◌≤◌, true, false, eqb, List, [], ◌∷◌, ◌++◌, length, get_or, take, drop, sym, ap, ◌∙◌, ⊎_elim, arith}
+use Rattle.std.proofs.lemmas.Bool.{and_parts, cond-false, eqb-true, not-true, not-false}
+use Rattle.std.proofs.lemmas.List.{drop_more, length-append, length-drop, take_all, take-append-drop}
+use Rattle.model.specs.Names.{every}
+use Rattle.sheets.specs.Lines.{line_at, in_front, inside_line, lines_from, heading, later, Parts}
 
--- the lines from a place on
-abbrev pub rest_from : List ℕ → ℕ → List Line
-rest_from text place = lines_from place (drop place text)
+pub line_cons : (p : ℕ) (xs ys : List ℕ) → every inside_line xs ≡ true → lines_from p (xs ++ (10 ∷ ys)) ≡ line_at p xs ∷ lines_from (p + length xs + 1) ys
+line_cons p [] ys h = let e : p + 1 ≡ p + 0 + 1 = omega arith in ap (λ k. line_at p [] ∷ lines_from k ys) e
+line_cons p (x ∷ xs) ys h =
+    let both = and_parts (inside_line x) (every inside_line xs) h in
+    let e : p + 1 + length xs + 1 ≡ p + length (x ∷ xs) + 1 = omega arith in
+    cond-false (eqb x 10) _ _ (not-true (eqb x 10) both.0)
+    ∙ ap (in_front p x) (line_cons (p + 1) xs ys both.1)
+    ∙ ap (λ k. line_at p (x ∷ xs) ∷ lines_from k ys) e
 
-module _ (text : List ℕ) (a : ℕ) (lt : a < length text) where
-  at_newline : get_or text a 0 ≡ 10 → rest_from text a ≡ line_at a [] ∷ rest_from text (a + 1)
-  at_newline h = ap (lines_from a) (drop_more text a 0 lt) ∙ cond-true _ _ _ (eq-eqb (get_or text a 0) 10 h)
+-- a text without a newline is one line
+last_line : (p : ℕ) (x : ℕ) (xs : List ℕ) → every inside_line (x ∷ xs) ≡ true → lines_from p (x ∷ xs) ≡ line_at p (x ∷ xs) ∷ []
+last_line p x [] h = cond-false (eqb x 10) _ _ (not-true (eqb x 10) (and_parts (inside_line x) true h).0)
+last_line p x (y ∷ xs) h =
+    let both = and_parts (inside_line x) (every inside_line (y ∷ xs)) h in
+    cond-false (eqb x 10) _ _ (not-true (eqb x 10) both.0) ∙ ap (in_front p x) (last_line (p + 1) y xs both.1)
 
-  at_byte : (get_or text a 0 ≡ 10 → ⊥) → rest_from text a ≡ in_front a (get_or text a 0) (rest_from text (a + 1))
-  at_byte h = ap (lines_from a) (drop_more text a 0 lt) ∙ cond-false _ _ _ (ne_eqb (get_or text a 0) 10 h)
+one_line : (p : ℕ) (xs : List ℕ) → 0 < length xs → every inside_line xs ≡ true → lines_from p xs ≡ line_at p xs ∷ []
+one_line p [] some h = absurd (omega (arith, some))
+one_line p (x ∷ xs) some h = last_line p x xs h
 
-pub rest_none : (text : List ℕ) (a : ℕ) → length text ≤ a → rest_from text a ≡ []
-rest_none text a le = ap (lines_from a) (drop_all a text le)
+-- a text whose first newline is at a place
+pub cut_at : (text : List ℕ) (i : ℕ) → i < length text → inside_line (get_or text i 0) ≡ false → text ≡ take i text ++ (10 ∷ take (length text - (i + 1)) (drop (i + 1) text))
+cut_at text i lt ends =
+    let newline : get_or text i 0 ≡ 10 = eqb-true (get_or text i 0) 10 (not-false (eqb (get_or text i 0) 10) ends) in
+    let rest : take (length text - (i + 1)) (drop (i + 1) text) ≡ drop (i + 1) text = take_all (length text - (i + 1)) (drop (i + 1) text) (omega (arith, length-drop (i + 1) text)) in
+    sym (take-append-drop i text) ∙ ap (λ bs. take i text ++ bs) (drop_more text i 0 lt ∙ ap (λ b. b ∷ drop (i + 1) text) newline ∙ ap (λ bs. 10 ∷ bs) (sym rest))
 
--- by how many bytes the line has
-lines_by : (text : List ℕ) (n a e : ℕ) → a + n ≡ e → EndsAt text a e → a < length text → rest_from text a ≡ line_at a (span text a e) ∷ rest_from text (e + 1)
-lines_by text zero a e len ends lt =
-    let same : a ≡ e = omega arith in
-    let here : get_or text a 0 ≡ 10 = ap (λ k. get_or text k 0) same ∙ ends.newline (omega arith) in
-    at_newline text a lt here ∙ ap (λ xs. line_at a xs ∷ rest_from text (a + 1)) (sym (span_none text a e (omega arith))) ∙ ap (λ k. line_at a (span text a e) ∷ rest_from text (k + 1)) same
-lines_by text (suc n) a e len ends lt =
-    let more : a < e = omega arith in
-    let byte = at_byte text a lt (ends.one_line a (omega arith) more) in
-    let first = span_first text a e more ends.within in
+-- what is taken of a text with its first line
+pub parts_length : (text line rest : List ℕ) → Parts text line rest → length line + length rest ≤ length text
+parts_length text line rest parts =
+    ⊎_elim (λ cut. omega (arith, ap length cut, length-append line (10 ∷ rest))) (λ all. omega (arith, ap length all.0, ap length all.1)) parts.joined
+
+pub parts_lines : (p : ℕ) (text line rest : List ℕ) → Parts text line rest → 0 < length text → lines_from p text ≡ line_at p line ∷ lines_from (p + (length text - length rest)) rest
+parts_lines p text line rest parts some =
     ⊎_elim
-    (λ next.
-    let tail : EndsAt text (a + 1) e = record { forward = omega arith; within = ends.within; one_line = λ k le. ends.one_line k (omega arith); newline = ends.newline } in
-    byte ∙ ap (in_front a (get_or text a 0)) (lines_by text n (a + 1) e (omega arith) tail next) ∙ ap (λ xs. line_at a xs ∷ rest_from text (e + 1)) (sym first))
-    (λ last.
-    let end : e ≡ a + 1 = omega (arith, ends.within) in
-    byte ∙ ap (in_front a (get_or text a 0)) (rest_none text (a + 1) last)
-    ∙ ap (λ xs. line_at a xs ∷ []) (sym (first ∙ ap (λ xs. get_or text a 0 ∷ xs) (span_none text (a + 1) e (omega arith))))
-    ∙ ap (λ ls. line_at a (span text a e) ∷ ls) (sym (rest_none text (e + 1) (omega arith))))
-    (cases_lt (a + 1) (length text))
-
-pub lines_at : (text : List ℕ) (a e : ℕ) → EndsAt text a e → a < length text → rest_from text a ≡ line_at a (span text a e) ∷ rest_from text (e + 1)
-lines_at text a e ends lt = lines_by text (e - a) a e (omega (arith, ends.forward)) ends lt
+    (λ cut.
+    let long : length text ≡ length line + (1 + length rest) = ap length cut ∙ length-append line (10 ∷ rest) ∙ omega arith in
+    let at : p + length line + 1 ≡ p + (length text - length rest) = omega (arith, long) in
+    ap (lines_from p) cut ∙ line_cons p line rest parts.inside ∙ ap (λ k. line_at p line ∷ lines_from k rest) at)
+    (λ all.
+    ap (lines_from p) all.0 ∙ one_line p line (omega (arith, ap length all.0, some)) parts.inside
+    ∙ ap (λ bs. line_at p line ∷ lines_from (p + (length text - length rest)) bs) (sym all.1))
+    parts.joined
 
 -- the first line, also of an empty text
-first_or_none : (text : List ℕ) (e : ℕ) → EndsAt text 0 e → (heading (lines_from 0 text) ≡ span text 0 e) × (later (lines_from 0 text) ≡ rest_from text (e + 1))
-first_or_none text e ends =
+first_parts : (text line rest : List ℕ) → Parts text line rest → (heading (lines_from 0 text) ≡ line) × (later (lines_from 0 text) ≡ lines_from (length text - length rest) rest)
+first_parts [] line rest parts =
     ⊎_elim
-    (λ some. let ls = lines_at text 0 e ends some in (ap heading ls, ap later ls))
-    (λ none.
-    let ls = rest_none text 0 none in
-    (ap heading ls ∙ sym (span_none text 0 e (omega (arith, ends.within))), ap later ls ∙ sym (rest_none text (e + 1) (omega arith))))
-    (cases_lt 0 (length text))
+    (λ cut. absurd (omega (arith, ap length cut, length-append line (10 ∷ rest))))
+    (λ all. (all.0, ap (λ bs. lines_from (0 - length rest) bs) (sym all.1)))
+    parts.joined
+first_parts (b ∷ bs) line rest parts =
+    let ls = parts_lines 0 (b ∷ bs) line rest parts (omega arith) in
+    let at : 0 + (length (b ∷ bs) - length rest) ≡ length (b ∷ bs) - length rest = omega arith in
+    (ap heading ls, ap later ls ∙ ap (λ k. lines_from k rest) at)
 
-pub heading_at : (text : List ℕ) (e : ℕ) → EndsAt text 0 e → heading (lines_from 0 text) ≡ span text 0 e
-heading_at text e ends = (first_or_none text e ends).0
+pub parts_heading : (text line rest : List ℕ) → Parts text line rest → heading (lines_from 0 text) ≡ line
+parts_heading text line rest parts = (first_parts text line rest parts).0
 
-pub later_at : (text : List ℕ) (e : ℕ) → EndsAt text 0 e → later (lines_from 0 text) ≡ rest_from text (e + 1)
-later_at text e ends = (first_or_none text e ends).1
+pub parts_later : (text line rest : List ℕ) → Parts text line rest → later (lines_from 0 text) ≡ lines_from (length text - length rest) rest
+parts_later text line rest parts = (first_parts text line rest parts).1

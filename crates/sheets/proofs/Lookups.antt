@@ -1,12 +1,13 @@
 -- What a search in the symbol table finds.
-use Rattle.std.proofs.Common.{◌≡◌, ℕ, zero, suc, ◌+◌, ◌<◌, Bool, true, false, ◌||◌, List, [], ◌∷◌, ◌++◌, length, get_or, take, drop, is_some, Some, None, Decides, Option, Result, unwrap_or, sym, refl, ap, ◌∙◌, subst, ⊎_elim, arith}
+use Rattle.std.proofs.Common.{◌≡◌, ℕ, zero, suc, ◌+◌, ◌<◌, Bool, true, false, ◌||◌, List, [], ◌∷◌, ◌++◌, length, get_or, take, drop, is_some, Some, None, Option, Result, unwrap_or, sym, refl, ap, ◌∙◌, subst, ⊎_elim, arith}
+use Rattle.std.proofs.lemmas.Option.{none-some}
 use Rattle.std.proofs.lemmas.Slice.Eq.{bytes_eq-Decides}
-use Rattle.std.proofs.lemmas.List.{at_drop_more, length-take-le}
+use Rattle.std.proofs.lemmas.List.{length-take-le}
 use Rattle.std.proofs.lemmas.Bool.{cond-true, cond-false, cases_Bool, true≢false}
 use Rattle.std.proofs.lemmas.Bool.Decides.{same_from_decides}
-use Rattle.std.specs.List.{slice_get}
+use Rattle.std.specs.List.{list_any, slice_get}
 use Rattle.std.specs.Str.{bytes_eq}
-use Rattle.model.proofs.Spelling.{decides_spelling}
+use Rattle.model.proofs.Spelling.{alike, alike_decides}
 use Rattle.model.specs.Facts.{Different, names}
 use Rattle.model.specs.Spelling.{spelling}
 use Rattle.model.specs.declared.fact.Fact.{Fact}
@@ -16,22 +17,27 @@ use Rattle.table.specs.Keys.{Apart, Held}
 use Rattle.table.specs.Tables.{FindsOrAdds, found, appended, refused}
 use Rattle.table.specs.declared.table.Full.{Full}
 use Rattle.sheets.specs.RuleSheets.{fact_symbols, lists}
-use Rattle.sheets.specs.Symbols.{known, same_symbol, signal_of, signal_or_zero, symbol}
+use Rattle.sheets.specs.Symbols.{known, signal_of, signal_or_zero, symbol}
 use Rattle.sheets.specs.declared.symbol.Symbol.{Symbol}
 use Rattle.sheets.proofs.WrittenBack.{new_here}
 
 pub same_some : {X : Type 0} {x y : X} → ◌≡◌ {A = Option X} (Some x) (Some y) → x ≡ y
 same_some e = cc
 
-pub none_some : {X : Type 0} {x : X} → ◌≡◌ {A = Option X} None (Some x) → ⊥
-none_some e = let z : ◌≡◌ {A = ℕ} 0 1 = cc in omega arith
+-- how `==` tells symbols apart
+abbrev pub same_key : Symbol → Symbol → Bool
+same_key a b = alike a.name b.name
 
-pub apart_tail : (s : Symbol) (ss : List Symbol) → Apart same_symbol (s ∷ ss) → Apart same_symbol ss
+-- what `==` at two names answers
+pub alike_bytes : (a b : Name) → alike a b ≡ bytes_eq (spelling a) (spelling b)
+alike_bytes a b = same_from_decides _ _ (alike_decides a b) (bytes_eq-Decides (spelling a) (spelling b))
+
+pub apart_tail : (s : Symbol) (ss : List Symbol) → Apart same_key (s ∷ ss) → Apart same_key ss
 apart_tail s ss apart i j x y lt at_i at_j = apart (suc i) (suc j) x y (omega arith) at_i at_j
 
 -- a name that is held stands for the signal beside it
-pub held_signal : (ss : List Symbol) → Apart same_symbol ss → (word : List ℕ) (n : ℕ) (x : Symbol) → slice_get ss n ≡ Some x → bytes_eq (spelling x.name) word ≡ true → signal_of ss word ≡ Some x.signal
-held_signal [] apart word n x at same = absurd (none_some at)
+pub held_signal : (ss : List Symbol) → Apart same_key ss → (word : List ℕ) (n : ℕ) (x : Symbol) → slice_get ss n ≡ Some x → bytes_eq (spelling x.name) word ≡ true → signal_of ss word ≡ Some x.signal
+held_signal [] apart word n x at same = absurd (none-some _ at)
 held_signal (s ∷ ss) apart word zero x at same =
     let e : s ≡ x = same_some at in
     cond-true (bytes_eq (spelling s.name) word) _ _ (ap (λ k. bytes_eq (spelling k.name) word) e ∙ same) ∙ ap (λ k. Some k.signal) e
@@ -40,7 +46,7 @@ held_signal (s ∷ ss) apart word (suc n) x at same =
     (λ h.
     let is = (bytes_eq-Decides (spelling s.name) word).0 h in
     let was = (bytes_eq-Decides (spelling x.name) word).0 same in
-    absurd (true≢false (sym ((bytes_eq-Decides (spelling s.name) (spelling x.name)).1 (is ∙ sym was)) ∙ apart 0 (suc n) s x (omega arith) refl at)))
+    absurd (true≢false (sym ((alike_decides s.name x.name).1 (is ∙ sym was)) ∙ apart 0 (suc n) s x (omega arith) refl at)))
     (λ h. cond-false (bytes_eq (spelling s.name) word) _ _ h ∙ held_signal ss (apart_tail s ss apart) word n x at same)
     (cases_Bool (bytes_eq (spelling s.name) word))
 
@@ -63,22 +69,22 @@ facts_push p (g ∷ fs) f =
     ap (λ ss. symbol g.name p ∷ ss) (facts_push (suc p) fs f ∙ ap (λ k. fact_symbols (suc p) fs ++ (symbol f.name k ∷ [])) e)
 
 pub fact_named : (p : ℕ) (fs : List Fact) (n : ℕ) (x : Symbol) → slice_get (fact_symbols p fs) n ≡ Some x → (n < length fs) × (spelling x.name ≡ get_or (names fs) n [])
-fact_named p [] n x at = absurd (none_some at)
+fact_named p [] n x at = absurd (none-some _ at)
 fact_named p (f ∷ fs) zero x at = (omega arith, ap (λ k. spelling k.name) (sym (same_some at)))
 fact_named p (f ∷ fs) (suc n) x at = let rest = fact_named (suc p) fs n x at in (omega (arith, rest.0), rest.1)
 
 -- what a search in the table answers
-pub found_signal : (ss : List Symbol) → Apart same_symbol ss → (name : Name) (n : ℕ) (x : Symbol) → Held same_symbol ss (symbol name 0) n → slice_get ss n ≡ Some x → signal_of ss (spelling name) ≡ Some x.signal
+pub found_signal : (ss : List Symbol) → Apart same_key ss → (name : Name) (n : ℕ) (x : Symbol) → Held same_key ss (symbol name 0) n → slice_get ss n ≡ Some x → signal_of ss (spelling name) ≡ Some x.signal
 found_signal ss apart name n x (y, at, same) at' =
     let e : y ≡ x = same_some (sym at ∙ at') in
-    held_signal ss apart (spelling name) n x at' (ap (λ k. bytes_eq (spelling k.name) (spelling name)) (sym e) ∙ same)
+    held_signal ss apart (spelling name) n x at' (sym (alike_bytes x.name name) ∙ ap (λ k. alike k.name name) (sym e) ∙ same)
 
 -- a name that is not known is not held
-pub fresh_held : (ss : List Symbol) → Apart same_symbol ss → (s : Symbol) (n : ℕ) → signal_of ss (spelling s.name) ≡ None → Held same_symbol ss s n → ⊥
-fresh_held ss apart s n fresh (y, at, same) = none_some (sym fresh ∙ held_signal ss apart (spelling s.name) n y at same)
+pub fresh_held : (ss : List Symbol) → Apart same_key ss → (s : Symbol) (n : ℕ) → signal_of ss (spelling s.name) ≡ None → Held same_key ss s n → ⊥
+fresh_held ss apart s n fresh (y, at, same) = none-some _ (sym fresh ∙ held_signal ss apart (spelling s.name) n y at (sym (alike_bytes y.name s.name) ∙ same))
 
 -- what adding a new name does
-pub adds_fresh : (cap : ℕ) (ss after : List Symbol) (s : Symbol) (r : Result ℕ Full) → Apart same_symbol ss → signal_of ss (spelling s.name) ≡ None → length ss < cap → FindsOrAdds same_symbol cap ss s r after → after ≡ ss ++ (s ∷ [])
+pub adds_fresh : (cap : ℕ) (ss after : List Symbol) (s : Symbol) (r : Result ℕ Full) → Apart same_key ss → signal_of ss (spelling s.name) ≡ None → length ss < cap → FindsOrAdds same_key cap ss s r after → after ≡ ss ++ (s ∷ [])
 adds_fresh cap ss _ s _ apart fresh room (found n held) = absurd (fresh_held ss apart s n fresh held)
 adds_fresh cap ss _ s _ apart fresh room (appended absent more) = refl
 adds_fresh cap ss _ s _ apart fresh room (refused full absent none) = absurd (omega arith)
@@ -98,17 +104,17 @@ fact_fresh fs gs g apart =
 
 -- a list around the element at a place
 pub nth_split : {X : Type 0} (xs : List X) (i : ℕ) (x : X) → slice_get xs i ≡ Some x → xs ≡ take i xs ++ (x ∷ drop (suc i) xs)
-nth_split [] i x at = absurd (none_some at)
+nth_split [] i x at = absurd (none-some _ at)
 nth_split (y ∷ ys) zero x at = ap (λ z. z ∷ ys) (same_some at)
 nth_split (y ∷ ys) (suc i) x at = ap (λ zs. y ∷ zs) (nth_split ys i x at)
 
 pub nth_take : {X : Type 0} (xs : List X) (i : ℕ) (x : X) → slice_get xs i ≡ Some x → take (suc i) xs ≡ take i xs ++ (x ∷ [])
-nth_take [] i x at = absurd (none_some at)
+nth_take [] i x at = absurd (none-some _ at)
 nth_take (y ∷ ys) zero x at = ap (λ z. z ∷ []) (same_some at)
 nth_take (y ∷ ys) (suc i) x at = ap (λ zs. y ∷ zs) (nth_take ys i x at)
 
 pub nth_below : {X : Type 0} (xs : List X) (i : ℕ) (x : X) → slice_get xs i ≡ Some x → i < length xs
-nth_below [] i x at = absurd (none_some at)
+nth_below [] i x at = absurd (none-some _ at)
 nth_below (y ∷ ys) zero x at = omega arith
 nth_below (y ∷ ys) (suc i) x at = omega (arith, nth_below ys i x at)
 
@@ -127,20 +133,17 @@ module _ (fs : List Fact) (i : ℕ) (f : Fact) (at : slice_get fs i ≡ Some f) 
       ap (λ k. fact_symbols 0 (take i fs) ++ (symbol f.name k ∷ [])) (sym e) ∙ sym (facts_push 0 (take i fs) f)
       ∙ ap (fact_symbols 0) (sym (nth_take fs i f at)) ∙ ap (λ k. fact_symbols 0 (take k fs)) one
 
-pub nth_inside : {X : Type 0} (xs : List X) (i : ℕ) → i < length xs → slice_get xs i ≡ None → ⊥
-nth_inside [] i lt at = omega arith
-nth_inside (y ∷ ys) zero lt at = none_some (sym at)
-nth_inside (y ∷ ys) (suc i) lt at = nth_inside ys i (omega arith) at
+pub nth_at : {X : Type 0} (xs : List X) (i : ℕ) (x : X) → i < length xs → x ≡ get_or xs i x → slice_get xs i ≡ Some x
+nth_at [] i x lt is = absurd (omega (arith, lt))
+nth_at (y ∷ ys) zero x lt is = ap Some (sym is)
+nth_at (y ∷ ys) (suc i) x lt is = nth_at ys i x (omega (arith, lt)) is
 
 -- ---- names
 
--- what `==` at two names answers
-pub name_test : (a b : Name) (r : Bool) → Decides r ((a.len ≡ b.len) × (a.bytes ≡ b.bytes)) → r ≡ bytes_eq (spelling a) (spelling b)
-name_test a b r decides = same_from_decides r _ (decides_spelling a b r decides) (bytes_eq-Decides (spelling a) (spelling b))
-
--- the outputs from a place on
-pub lists_from : (os : List Output) (i : ℕ) (o : Output) (word : List ℕ) → i < length os → o ≡ get_or os i o → lists (drop i os) word ≡ (bytes_eq (spelling o.name) word || lists (drop (i + 1) os) word)
-lists_from os i o word lt is = at_drop_more (λ xs. lists xs word) os i o lt ∙ ap (λ p. bytes_eq (spelling p.name) word || lists (drop (i + 1) os) word) (sym is)
+-- an output is listed with a name if one of the outputs has it
+pub lists_any : (os : List Output) (n : Name) → list_any (λ o. alike o.name n) os ≡ lists os (spelling n)
+lists_any [] n = refl
+lists_any (o ∷ os) n = λ i. alike_bytes o.name n i || lists_any os n i
 
 -- a name that is known stands for the signal that was found
 pub found_zero : (ss : List Symbol) (word : List ℕ) (n : ℕ) → Some n ≡ signal_of ss word → (known ss word ≡ true) × (n ≡ signal_or_zero ss word)

@@ -1,10 +1,12 @@
 -- A line goes on with one token, or is stuck.
-use Rattle.std.proofs.Common.{◌≡◌, ℕ, ◌^◌, ◌<◌, true, false, List, [], ◌∷◌, length, get_or, decimal, sym, refl, ap, ◌∙◌, subst, arith}
+use Rattle.std.proofs.Common.{◌≡◌, ◌≢◌, MatchOption, MatchResult, None, Option, Result, Some, ℕ, ◌^◌, ◌<◌, true, false, List, [], ◌∷◌, length, get_or, decimal, sym, refl, ap, ◌∙◌, subst, arith}
 use Rattle.std.proofs.lemmas.Fmt.{decimal_injective, decimal_nonempty, decimal_is_IsNumeral}
 use Rattle.std.proofs.lemmas.Str.Parse.{digit_at}
 use Rattle.std.proofs.lemmas.Bool.{and_parts, true≢false}
 use Rattle.std.proofs.lemmas.Bool.Decides.{nat_tests}
 use Rattle.std.specs.Int.{IsInRange}
+use Rattle.std.specs.Option.{ok_or}
+use Rattle.model.specs.declared.fault.Fault.{Fault}
 use Rattle.model.specs.Letters.{letter_of}
 use Rattle.model.specs.Names.{begins, is_letter, is_name, is_word_byte}
 use Rattle.model.specs.Spelling.{spelling}
@@ -127,3 +129,29 @@ same_rest ts r s e f = cc
 
 pub same_word : {a b : List ℕ} (ts r s : List (List ℕ)) → ts ≡ a ∷ r → ts ≡ b ∷ s → a ≡ b
 same_word ts r s e f = cc
+
+-- what a token was taken for
+pub taken_for : {T : Type 0} (token_of : T → Token) (ts rest : List (List ℕ)) (t : Token) (held : Option T) (r : Result T Fault) (f : Fault)
+    → Next ts t rest → MatchOption held ((v : T) → t ≢ token_of v) (λ v. t ≡ token_of v) → r ≡ ok_or held f
+    → MatchResult r (λ v. Next ts (token_of v) rest) (λ g. (g ≡ f) × ((v : T) (rest' : List (List ℕ)) → Next ts (token_of v) rest' → ⊥))
+taken_for {T} token_of ts rest t (Some v) r f next is e = rw e (subst (λ u. Next ts u rest) is next)
+taken_for {T} token_of ts rest t None r f next other e = rw e (refl, λ v rest' h. other v (one_next ts rest rest' t (token_of v) next h))
+
+rest_is : (ts r s : List (List ℕ)) (t : Token) → Next ts t r → Next ts t s → r ≡ s
+rest_is ts r s LineEnd h k = h.1 ∙ sym k.1
+rest_is ts r s (Identifier n) h k = same_rest ts r s h.0 k.0
+rest_is ts r s (Number v) h k = same_rest ts r s h.0 k.0
+rest_is ts r s (TypeLetter t) h k = same_rest ts r s h k
+rest_is ts r s Equals h k = same_rest ts r s h k
+rest_is ts r s Or h k = same_rest ts r s h k
+rest_is ts r s Plus h k = same_rest ts r s h k
+rest_is ts r s Minus h k = same_rest ts r s h k
+rest_is ts r s Times h k = same_rest ts r s h k
+rest_is ts r s Not h k = same_rest ts r s h k
+rest_is ts r s Open h k = same_rest ts r s h k
+rest_is ts r s Close h k = same_rest ts r s h k
+rest_is ts r s (Other c) h k = same_rest ts r s h.0 k.0
+
+-- if one reading ends the line, the other does too
+pub only_left : (ts r : List (List ℕ)) (t u : Token) → Next ts t r → Next ts u [] → r ≡ []
+only_left ts r t u h k = rest_is ts r [] t h (subst (λ w. Next ts w []) (sym (one_next ts r [] t u h k)) k)

@@ -8,12 +8,13 @@ use Rattle.std.specs.List.{flat_map}
 use Rattle.model.proofs.Bytes.{every_append}
 use Rattle.model.specs.Names.{begins, every, is_word_byte}
 use Rattle.model.specs.declared.fault.Refusal.{Refusal}
-use Rattle.sheets.specs.Lines.{Line, line_at, lines_from, says_nothing, speaking}
+use Rattle.sheets.specs.Lines.{inside_line, Line, line_at, lines_from, says_nothing, speaking}
 use Rattle.sheets.specs.RuleLaws.{line_text, spaced}
 use Rattle.sheets.specs.Sheets.{allowed, Reads, done, goes_on}
 use Rattle.sheets.specs.Tokens.{tokens}
+use Rattle.sheets.proofs.LinesFrom.{line_cons}
 use Rattle.sheets.proofs.Words.{tokens_run, tokens_single, tokens_space}
-use Rattle.sheets.proofs.WrittenBack.{inside_line, line_cons, weaker}
+use Rattle.sheets.proofs.WrittenBack.{weaker}
 
 -- ---- tokens
 

@@ -1,18 +1,14 @@
 -- A line has at most as many tokens as bytes.
-use Rattle.std.proofs.Common.{ℕ, ◌+◌, ◌-◌, ◌≤◌, cond, ◌&&◌, eqb, List, [], ◌∷◌, length, drop, ap, ◌∙◌, ⊎_elim, arith}
-use Rattle.std.proofs.lemmas.List.{length-drop, length-take}
+use Rattle.std.proofs.Common.{ℕ, ◌+◌, ◌≤◌, cond, ◌&&◌, eqb, List, [], ◌∷◌, length, ap, ◌∙◌, ⊎_elim, arith}
 use Rattle.std.proofs.lemmas.Bool.{cases_Bool, cond-false, cond-true}
 use Rattle.model.specs.Names.{begins, is_word_byte}
-use Rattle.sheets.specs.Cursors.{ahead}
-use Rattle.sheets.specs.Lines.{span}
 use Rattle.sheets.specs.Tokens.{joined_to, tokens}
-use Rattle.sheets.specs.declared.cursor.Cursor.{Cursor}
 
 joined_short : (b : ℕ) (ts : List (List ℕ)) (n : ℕ) → length ts ≤ n → length (joined_to b ts) ≤ n + 1
 joined_short b [] n h = omega arith
 joined_short b (w ∷ ws) n h = omega arith
 
-tokens_short : (bs : List ℕ) → length (tokens bs) ≤ length bs
+pub tokens_short : (bs : List ℕ) → length (tokens bs) ≤ length bs
 tokens_short [] = omega arith
 tokens_short (b ∷ bs) =
     let more = tokens_short bs in
@@ -26,9 +22,3 @@ tokens_short (b ∷ bs) =
     (λ j. omega (arith, ap length (cond-false (eqb b 32) (tokens bs) rest other ∙ cond-false join (joined_to b (tokens bs)) ((b ∷ []) ∷ tokens bs) j)))
     (cases_Bool join))
     (cases_Bool (eqb b 32))
-
-pub ahead_short : (c : Cursor) → length (ahead c) ≤ length c.text.now
-ahead_short c =
-    let text = c.text.now in
-    let a = c.at in
-    omega (arith, tokens_short (span text a c.end), length-take (c.end - a) (drop a text), length-drop a text)

@@ -1,8 +1,8 @@
 -- An order that is written out is read back.
-use Rattle.std.proofs.Common.{◌≡◌, ℕ, suc, ◌+◌, ◌*◌, ◌<◌, ◌≤◌, Bool, true, false, not, eqb, List, [], ◌∷◌, ◌++◌, length, is_err, Ok, Err, codes, decimal, Result, sym, refl, ap, ◌∙◌, subst, ⊎_elim, arith}
+use Rattle.std.proofs.Common.{◌≡◌, ℕ, suc, ◌+◌, ◌*◌, ◌<◌, ◌≤◌, Bool, true, false, List, [], ◌∷◌, ◌++◌, length, is_err, Ok, Err, codes, decimal, Result, sym, refl, ap, ◌∙◌, subst, ⊎_elim, arith}
 use Rattle.std.proofs.lemmas.Fmt.{decimal_digit}
 use Rattle.std.proofs.lemmas.List.{append-nil, append_assoc, length-append, length_push}
-use Rattle.std.proofs.lemmas.Bool.{and_parts, and_from, cond-true, cond-false, not-true, cases_Bool, false≢true}
+use Rattle.std.proofs.lemmas.Bool.{and_parts, and_from, cond-true, cond-false, cases_Bool, false≢true}
 use Rattle.std.proofs.lemmas.Bool.Decides.{nat_tests}
 use Rattle.std.specs.List.{flat_map}
 use Rattle.model.proofs.Bytes.{every_append}
@@ -19,11 +19,12 @@ use Rattle.model.specs.declared.decomposition.Decomposition.TheVariants.{Shannon
 use Rattle.model.specs.declared.fact.Fact.{Fact}
 use Rattle.model.specs.declared.fault.Fault.{Fault}
 use Rattle.model.specs.declared.order.Order.{Order}
-use Rattle.sheets.specs.Lines.{Line, line_at, in_front, lines_from, heading, later, says_nothing, speaking}
+use Rattle.sheets.specs.Lines.{inside_line, Line, line_at, lines_from, heading, later, says_nothing, speaking}
 use Rattle.sheets.specs.OrderLaws.{fact_text, order_text}
 use Rattle.sheets.specs.OrderSheets.{FactStep, taken, OrderSheet}
 use Rattle.sheets.specs.Sheets.{allowed, opens, Plain, Reads, done, goes_on, opened, verdict}
 use Rattle.sheets.specs.Tokens.{brackets, is_bracket, tokens}
+use Rattle.sheets.proofs.LinesFrom.{line_cons}
 use Rattle.sheets.proofs.NextToken.{letter_plain}
 use Rattle.sheets.proofs.OrderVerdicts.{order_laws}
 use Rattle.sheets.proofs.Verdicts.{ok_or_err, same_ok}
@@ -37,18 +38,6 @@ weaker p q so (x ∷ xs) h =
     and_from (q x) (every q xs) (so x both.0) (weaker p q so xs both.1)
 
 -- ---- lines
-
-abbrev pub inside_line : ℕ → Bool
-inside_line b = not (eqb b 10)
-
-pub line_cons : (p : ℕ) (xs ys : List ℕ) → every inside_line xs ≡ true → lines_from p (xs ++ (10 ∷ ys)) ≡ line_at p xs ∷ lines_from (p + length xs + 1) ys
-line_cons p [] ys h = let e : p + 1 ≡ p + 0 + 1 = omega arith in ap (λ k. line_at p [] ∷ lines_from k ys) e
-line_cons p (x ∷ xs) ys h =
-    let both = and_parts (inside_line x) (every inside_line xs) h in
-    let e : p + 1 + length xs + 1 ≡ p + length (x ∷ xs) + 1 = omega arith in
-    cond-false (eqb x 10) _ _ (not-true (eqb x 10) both.0)
-    ∙ ap (in_front p x) (line_cons (p + 1) xs ys both.1)
-    ∙ ap (λ k. line_at p (x ∷ xs) ∷ lines_from k ys) e
 
 -- ---- the line of a fact
 

@@ -20,7 +20,8 @@ use Rattle.sheets.specs.declared.notation.Notation.TheVariants.{Gates}
 use Rattle.sheets.proofs.RuleVerdicts.{rule_laws}
 use Rattle.sheets.proofs.SignalNames.{Differ, facts_numbered}
 use Rattle.sheets.proofs.Spaced.{reads_text, Speaks, Taken, taken_then, text_allowed, text_long, text_of}
-use Rattle.sheets.proofs.WrittenBack.{all_tail, line_cons}
+use Rattle.sheets.proofs.LinesFrom.{line_cons}
+use Rattle.sheets.proofs.WrittenBack.{all_tail}
 use Rattle.sheets.proofs.WrittenLines.{gates_speak, gates_taken, output_at, outputs_speak, outputs_taken, rules_with}
 
 facts_named : (fs : List Fact) → AllNamed fs → All (λ n. 0 < length (spelling n)) (map (λ f. f.name) fs)

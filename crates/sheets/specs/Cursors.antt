@@ -1,23 +1,22 @@
--- What a cursor has before it.
-use Rattle.std.specs.Prelude.{◌≡◌, ℕ, ◌+◌, List, drop}
-use Rattle.sheets.specs.Lines.{Line, line_at, lines_from, span}
+-- What is still to be read of a line, and of a text.
+use Rattle.std.specs.Prelude.{ℕ, List}
+use Rattle.sheets.specs.Lines.{Line, line_at, lines_from, speaking}
 use Rattle.sheets.specs.Tokens.{tokens}
 use Rattle.sheets.specs.declared.cursor.Cursor.{Cursor}
+use Rattle.sheets.specs.declared.lines.Lines.{Lines}
 
--- the line that it stands in
+-- the line of a cursor that stands before its first byte
 abbrev pub current : Cursor → Line
-current c = line_at c.line (span c.text.now c.line c.end)
+current c = line_at c.line c.rest.now
 
--- the tokens of that line that are still to come
+-- the tokens that are still to come
 abbrev pub ahead : Cursor → List (List ℕ)
-ahead c = tokens (span c.text.now c.at c.end)
+ahead c = tokens c.rest.now
 
--- the lines after it
-abbrev pub following : Cursor → List Line
-following c = lines_from (c.end + 1) (drop (c.end + 1) c.text.now)
+-- the lines that are still to come
+abbrev pub left : Lines → List Line
+left l = lines_from l.place l.rest.now
 
--- d stands in the line of c
-pub record SameLine (c d : Cursor) : Type 0 where
-  pub text : d.text.now ≡ c.text.now
-  pub line : d.line ≡ c.line
-  pub end : d.end ≡ c.end
+-- those of them that say something
+abbrev pub to_come : Lines → List Line
+to_come l = speaking (left l)

@@ -13,5 +13,6 @@ pub mod RuleSheets
 pub mod SheetWorth
 pub mod Sheets
 pub mod Sides
+pub mod SymbolTables
 pub mod Symbols
 pub mod Tokens

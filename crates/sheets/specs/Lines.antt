@@ -1,5 +1,6 @@
 -- The lines of a sheet.
-use Rattle.std.specs.Prelude.{◌≡◌, ℕ, ◌+◌, ◌<◌, ◌≤◌, Bool, true, cond, List, [], ◌∷◌, length, ◌==◌, ◌≢◌, slice_index, slice_range}
+use Rattle.std.specs.Prelude.{◌≡◌, ℕ, ◌+◌, ◌⊎◌, Bool, true, not, cond, List, [], ◌∷◌, ◌++◌, ◌==◌}
+use Rattle.model.specs.Names.{every}
 
 pub record Line : Type 0 where
   pub first : ℕ
@@ -37,13 +38,11 @@ abbrev pub speaking : List Line → List Line
 speaking [] = []
 speaking (l ∷ ls) = cond (says_nothing l.bytes) (speaking ls) (l ∷ speaking ls)
 
--- the bytes from one place to another
-abbrev pub span : List ℕ → ℕ → ℕ → List ℕ
-span text from to = slice_range text from to
+-- a byte of a line
+abbrev pub inside_line : ℕ → Bool
+inside_line b = not (b == 10)
 
--- the line that begins at a place ends at another: at its newline, or with the text
-pub record EndsAt (text : List ℕ) (from to : ℕ) : Type 0 where
-  pub forward : from ≤ to
-  pub within : to ≤ length text
-  pub one_line : (k : ℕ) → from ≤ k → k < to → slice_index text k ≢ 10
-  pub newline : to < length text → slice_index text to ≡ 10
+-- the first line of a text, and what comes after its newline: nothing, if the text ends with that line
+pub record Parts (text line rest : List ℕ) : Type 0 where
+  pub inside : every inside_line line ≡ true
+  pub joined : (text ≡ line ++ (10 ∷ rest)) ⊎ ((text ≡ line) × (rest ≡ []))

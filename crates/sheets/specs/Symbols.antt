@@ -1,14 +1,13 @@
 -- The symbol table of a rule sheet: names, and the signals that they stand for.
-use Rattle.std.specs.Prelude.{ℕ, ◌*◌, ◌%◌, ◌^◌, Bool, cond, List, [], ◌∷◌, is_some, Some, None, fold, Option, bit_xor, refl}
-use Rattle.std.proofs.Common.{sym, ap, ◌∙◌}
+use Rattle.std.specs.Prelude.{◌≡◌, ℕ, ◌*◌, ◌%◌, ◌^◌, Bool, true, cond, List, [], ◌∷◌, is_some, Some, None, fold, Option, bit_xor}
+use Rattle.std.proofs.Common.{sym, ap, ◌∙◌, refl}
 use Rattle.std.proofs.lemmas.Slice.Eq.{bytes_eq-Decides}
+use Rattle.model.proofs.Spelling.{alike, alike_decides}
 use Rattle.std.specs.Option.{unwrap_or}
 use Rattle.std.specs.Str.{bytes_eq}
 use Rattle.model.specs.Spelling.{spelling}
 use Rattle.model.specs.declared.name.Name.{Name}
 use Rattle.table.specs.Keys.{KeyLaws}
-use Rattle.table.specs.Tables.{Sound}
-use Rattle.table.specs.declared.table.Table.{Table}
 use Rattle.sheets.specs.declared.symbol.Symbol.{Symbol}
 
 abbrev pub symbol : Name → ℕ → Symbol
@@ -33,6 +32,10 @@ symbol_laws = record {
   same_code = λ x y h. ap hash_of ((bytes_eq-Decides (spelling x.name) (spelling y.name)).0 h);
 }
 
+-- so have symbols whose names `==` finds equal
+pub same_hash : (x y : Symbol) → alike x.name y.name ≡ true → hash_of (spelling x.name) ≡ hash_of (spelling y.name)
+same_hash x y h = symbol_laws.same_code x y ((bytes_eq-Decides (spelling x.name) (spelling y.name)).1 ((alike_decides x.name y.name).0 h))
+
 -- the signal that a name stands for, if it is known
 abbrev pub signal_of : List Symbol → List ℕ → Option ℕ
 signal_of [] word = None
@@ -44,7 +47,3 @@ known ss word = is_some (signal_of ss word)
 -- the same, with 0 where it is not known
 abbrev pub signal_or_zero : List Symbol → List ℕ → ℕ
 signal_or_zero ss word = unwrap_or (signal_of ss word) 0
-
--- a symbol table that was opened
-abbrev pub SoundTable : Table Symbol → Type 0
-SoundTable t = Sound same_symbol (λ s. hash_of (spelling s.name)) t

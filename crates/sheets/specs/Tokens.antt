@@ -24,6 +24,10 @@ is_bracket [] = false
 is_bracket (b ∷ []) = b == 40 || b == 33
 is_bracket (b ∷ c ∷ bs) = false
 
+-- a byte that is such a token
+abbrev pub opens_deeper : ℕ → Bool
+opens_deeper b = is_bracket (b ∷ [])
+
 abbrev pub brackets : List (List ℕ) → ℕ
 brackets [] = 0
 brackets (w ∷ ws) = cond (is_bracket w) (1 + brackets ws) (brackets ws)

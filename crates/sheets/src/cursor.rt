@@ -1,24 +1,19 @@
 ghost use Rattle.std.specs.Prelude.{◌≤◌, length};
 
 mod expect;
-mod lines;
+mod line;
 mod tokens;
 
-pub(crate) use lines::end_of_line;
-
 // The most tokens `(` and `!` together that a line may have.
-pub(crate) const MAX_BRACKETS: usize = 32;
+const MAX_BRACKETS: usize = 32;
 
-// Steps through a sheet line by line, and through a line token by token. Places are bytes of the text.
+// Steps through a line token by token. The line stays where it begins, which the clause `stays` of each reader says:
+// a fact of the cursor before and after, which no type can hold.
 #[derive(Drop)]
 pub(crate) struct Cursor<'a> {
-    text: &'a [u8],
-    // where the line begins, and where it ends
+    // the line, as far as it is still to be read
+    rest: &'a [u8],
+    // where the line begins in the text
     line: usize,
-    end: usize,
-    // where the next token is looked for
-    at: usize,
-    ghost started: { line ≤ at },
-    ghost inside: { at ≤ end },
-    ghost within: { end ≤ length text.now },
+    ghost short: { length rest.now ≤ 65535 },
 }

@@ -7,6 +7,7 @@ mod cursor;
 mod draft;
 mod formula;
 mod heading;
+mod lines;
 mod notation;
 mod number;
 mod order_sheet;

@@ -4,7 +4,7 @@ ghost use Rattle.sheets.specs.Sheets.{Opens};
 ghost use Rattle.sheets.specs.declared.notation.Notation.{Notation as NotationOf};
 
 /// How a rule sheet writes what a name stands for.
-#[derive(Clone, Copy)]
+#[derive(Clone, Copy, Debug, PartialEq, Eq)]
 pub enum Notation {
     /// A gate word and its arguments.
     Gates,
@@ -13,6 +13,7 @@ pub enum Notation {
 }
 
 impl Notation {
+    // Every text has one, so this is no `TryFrom`.
     /// The notation of a text by its mark. A text with no mark of a rule sheet is taken for gates, and refused when
     /// it is read as such.
     pub fn of_text(text: &[u8]) -> Notation

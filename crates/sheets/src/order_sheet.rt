@@ -4,15 +4,15 @@ ghost use Rattle.model.specs.Refusals.{fault};
 ghost use Rattle.model.specs.declared.fact.Fact.{Fact as FactOf};
 ghost use Rattle.model.specs.declared.fault.Refusal.TheVariants.{NoForm};
 ghost use Rattle.model.specs.declared.order.Order.{Order as OrderOf};
-ghost use Rattle.sheets.specs.Cursors.{ahead, current, SameLine};
+ghost use Rattle.sheets.specs.Cursors.{ahead, current};
 ghost use Rattle.sheets.specs.OrderLaws.{order_text, OrderLaws};
 ghost use Rattle.sheets.specs.OrderSheets.{FactLine, FactStep, OrderSheet, StepRefused};
 ghost use Rattle.sheets.specs.Sheets.{verdict};
-ghost use Rattle.sheets.specs.Tokens.{tokens};
 
-use crate::cursor::{Cursor, MAX_BRACKETS};
-use crate::heading::check_heading;
-use model::{Fact, Fault, Order, Refusal};
+use crate::cursor::Cursor;
+use crate::lines::Lines;
+use crate::token::LineEnd;
+use model::{Fact, Fault, Order};
 
 /// Reads the text of an order sheet into an order, which is left empty on refusal.
 pub fn read_order(text: &[u8], order: &mut Order) -> Result<(), Fault>
@@ -33,38 +33,29 @@ fn read_facts(text: &[u8], order: &mut Order) -> Result<(), Fault>
     requires { facts_of order.old ≡ [] }
     ensures { OrderSheet text.now (verdict result (facts_of order.new)) }
 {
-    check_heading(text, b"ORD")?;
-    let mut cursor = Cursor::new(text);
-    while cursor.next_line() {
-        read_fact(&mut cursor, order)?;
+    for line in Lines::open(text, b"ORD")? {
+        read_fact(line, order)?;
     }
     Ok(())
 }
 
-// Adds the fact of the line in which the cursor stands.
-fn read_fact(cursor: &mut Cursor, order: &mut Order) -> Result<(), Fault>
-    requires { ahead cursor.old ≡ tokens (current cursor.old).bytes }
-    ensures stays { SameLine cursor.old cursor.new }
-    ensures step { MatchResult result (λ _. FactStep (facts_of order.old) (tokens (current cursor.old).bytes) (Ok (facts_of order.new))) (λ f. StepRefused (facts_of order.old) (current cursor.old) f) }
+// Adds the fact of a line.
+fn read_fact(mut line: Cursor, order: &mut Order) -> Result<(), Fault>
+    ensures { MatchResult result (λ _. FactStep (facts_of order.old) (ahead line.entry) (Ok (facts_of order.new))) (λ f. StepRefused (facts_of order.old) (current line.entry) f) }
 {
-    if cursor.count_brackets() > MAX_BRACKETS {
-        return Err(cursor.refuse(Refusal::TooManyBrackets));
-    }
-    let fact = fact_line(cursor)?;
-    match order.add(fact) {
-        Ok(()) => Ok(()),
-        Err(refusal) => Err(cursor.refuse(refusal)),
-    }
+    line.check_brackets()?;
+    let fact = fact_line(&mut line)?;
+    line.placed(order.add(fact))
 }
 
 // The fact that a line of the form `S`, `P` or `N` and a name says.
 fn fact_line(cursor: &mut Cursor) -> Result<Fact, Fault>
-    ensures stays { SameLine cursor.old cursor.new }
+    ensures stays { cursor.new.line ≡ cursor.old.line }
     ensures form { MatchResult result (λ f. FactLine (ahead cursor.old) f) (λ e. (e ≡ fault NoForm cursor.old.line) × ((f : FactOf) → FactLine (ahead cursor.old) f → ⊥)) }
 {
-    let decomposition = cursor.type_letter()?;
-    let name = cursor.identifier()?;
-    cursor.line_end()?;
+    let decomposition = cursor.take()?;
+    let name = cursor.take()?;
+    cursor.take::<LineEnd>()?;
     Ok(Fact {
         decomposition,
         name,

@@ -1,29 +1,24 @@
 ghost use Rattle.std.specs.Prelude.{◌≡◌};
-ghost use Rattle.std.specs.Str.{bytes_eq};
 ghost use Rattle.model.specs.Spelling.{spelling};
-ghost use Rattle.sheets.specs.Symbols.{hash_of, same_symbol, symbol_laws};
+ghost use Rattle.sheets.specs.Symbols.{hash_of, same_hash};
 
 use model::Name;
 use table::Key;
 
-/// A name that a rule sheet knows, with the signal that it stands for: an entry of the symbol table.
+/// A name that a rule sheet knows, with the signal that it stands for: an entry of the symbol table. Symbols are told
+/// apart by their names alone.
 #[derive(Clone, Copy)]
+#[derive_where(Debug, PartialEq, Eq)]
 pub struct Symbol {
     pub(crate) name: Name,
+    #[derive_where(skip(EqHashOrd))]
     pub(crate) signal: u32,
 }
 
-// Symbols are told apart by their names alone.
 impl Key for Symbol {
-    ghost same = { same_symbol };
-
     ghost code = { λ s. hash_of (spelling s.name) };
 
-    ghost laws = { symbol_laws };
-
-    fn equals(&self, other: &Symbol) -> bool {
-        self.name == other.name
-    }
+    ghost same_code = { same_hash };
 
     fn hash(&self) -> u32 {
         hash(self.name.as_bytes())
@@ -34,9 +29,7 @@ impl Key for Symbol {
 fn hash(word: &[u8]) -> u32
     ensures { result ≡ hash_of word.now }
 {
-    let mut hash = 2166136261;
-    for b in word {
-        hash = (hash ^ u32::from(*b)).wrapping_mul(16777619);
-    }
-    hash
+    word.iter().fold(2166136261, |hash, b| {
+        (hash ^ u32::from(*b)).wrapping_mul(16777619)
+    })
 }

@@ -1,4 +1,3 @@
-pub mod Equality
 pub mod Keyed
 pub mod Places
 pub mod RunLaws

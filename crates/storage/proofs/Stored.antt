@@ -1,4 +1,5 @@
 -- Nodes stay different when one is added that was not there, and when some are cut off.
+use Rattle.std.proofs.lemmas.Option.{same_Some, none-some, slice_get_within}
 use Rattle.std.proofs.Common.{◌≡◌, ℕ, ◌<◌, ◌≤◌, List, [], ◌∷◌, ◌++◌, length, take, Some, Ok, Err, Result, sym, refl, ap, ◌∙◌, subst, ⊎_elim, arith}
 use Rattle.std.proofs.lemmas.List.{length_push, length-take}
 use Rattle.std.proofs.lemmas.Bool.{cases_lt}
@@ -8,17 +9,17 @@ use Rattle.model.specs.declared.fault.Fault.{Fault}
 use Rattle.model.specs.declared.fault.Refusal.TheVariants.{StoreFull}
 use Rattle.model.specs.declared.node.Node.{Node}
 use Rattle.storage.specs.Stores.{Absent, Distinct, FindsOrAdds, found, appended, refused, Stored}
-use Rattle.table.proofs.Numbered.{same_some, none_some, nth_inside, nth_before, nth_here, nth_take}
+use Rattle.table.proofs.Numbered.{nth_before, nth_here, nth_take}
 
 pub distinct_none : Distinct []
-distinct_none i j n at_i at_j = absurd (none_some n at_i)
+distinct_none i j n at_i at_j = absurd (none-some n at_i)
 
 module _ (nodes : List Node) (n : Node) (distinct : Distinct nodes) (absent : Absent nodes n) where
   -- a node that is held stood there before, or is the new one
   at_end : (i : ℕ) (m : Node) → length nodes ≤ i → slice_get (nodes ++ (n ∷ [])) i ≡ Some m → (i ≡ length nodes) × (n ≡ m)
   at_end i m past is =
-      let end : i ≡ length nodes = omega (arith, nth_inside (nodes ++ (n ∷ [])) i m is, length_push nodes n) in
-      (end, same_some n m (sym (nth_here nodes n [] i end) ∙ is))
+      let end : i ≡ length nodes = omega (arith, slice_get_within (nodes ++ (n ∷ [])) i m is, length_push nodes n) in
+      (end, same_Some n m (sym (nth_here nodes n [] i end) ∙ is))
 
   -- an old node is not the new one
   apart : (i j : ℕ) (m : Node) → i < length nodes → length nodes ≤ j → slice_get (nodes ++ (n ∷ [])) i ≡ Some m → slice_get (nodes ++ (n ∷ [])) j ≡ Some m → ⊥
@@ -41,7 +42,7 @@ module _ (nodes : List Node) (n : Node) (distinct : Distinct nodes) (absent : Ab
 
 pub distinct_cut : (nodes : List Node) (count : ℕ) → Distinct nodes → Distinct (take count nodes)
 distinct_cut nodes count distinct i j n at_i at_j =
-    let kept : (k : ℕ) → slice_get (take count nodes) k ≡ Some n → slice_get nodes k ≡ Some n = λ k is. sym (nth_take count nodes k (omega (arith, nth_inside (take count nodes) k n is, length-take count nodes))) ∙ is in
+    let kept : (k : ℕ) → slice_get (take count nodes) k ≡ Some n → slice_get nodes k ≡ Some n = λ k is. sym (nth_take count nodes k (omega (arith, slice_get_within (take count nodes) k n is, length-take count nodes))) ∙ is in
     distinct i j n (kept i at_i) (kept j at_j)
 
 pub stored_cut : (capacity : ℕ) (nodes : List Node) (count : ℕ) → Stored capacity nodes → Stored capacity (take count nodes)
@@ -69,7 +70,7 @@ module _ (capacity : ℕ) (nodes : List Node) (n : Node) where
   pub placed_small : (place : ℕ) (after : List Node) → Stored capacity nodes → FindsOrAdds capacity nodes n (Ok place) after → place < 1048576
   placed_small place after so does =
       let more = stored_sought capacity nodes n (Ok place) after so does in
-      omega (arith, nth_inside after place n (placed_at place after does), more.within, more.limited)
+      omega (arith, slice_get_within after place n (placed_at place after does), more.within, more.limited)
 
   pub refused_full : (f : Fault) (after : List Node) → FindsOrAdds capacity nodes n (Err f) after → f ≡ fault StoreFull 0
   refused_full _ _ (refused none full) = refl

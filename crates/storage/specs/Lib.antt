@@ -6,4 +6,5 @@ pub mod PlainStores
 pub mod Questions
 pub mod Runs
 pub mod SlotMemos
+pub mod Slots
 pub mod Stores

@@ -1,7 +1,7 @@
 -- What the memory of a plain store means.
-use Rattle.std.specs.Prelude.{◌≡◌, ℕ, List, length, take}
+use Rattle.std.specs.Prelude.{ℕ, List, length, take}
 use Rattle.model.specs.declared.node.Node.{Node}
-use Rattle.storage.specs.Stores.{Stored, capacity_for}
+use Rattle.storage.specs.Stores.{capacity_for}
 use Rattle.storage.specs.declared.plain.PlainStore.{PlainStore}
 
 -- the nodes lie in the first cells
@@ -10,8 +10,3 @@ nodes_of s = take s.len s.cells.now
 
 abbrev pub capacity_of : PlainStore → ℕ
 capacity_of s = capacity_for (length s.cells.now)
-
--- a store that was made or cleared, and is used by its calls
-pub record Sound (s : PlainStore) : Type 0 where
-  pub count : length (nodes_of s) ≡ s.len
-  pub stored : Stored (capacity_of s) (nodes_of s)

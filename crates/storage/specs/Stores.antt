@@ -10,6 +10,11 @@ use Rattle.model.specs.declared.node.Node.{Node}
 abbrev pub capacity_for : ℕ → ℕ
 capacity_for lent = min lent 1048576
 
+-- a change of the nodes leaves the memory that was lent, and so the capacity
+pub record KeepsMemory {S : Type 0} (capacity_of name_of : S → ℕ) (before after : S) : Type 0 where
+  pub capacity : capacity_of after ≡ capacity_of before
+  pub lent : name_of after ≡ name_of before
+
 -- a node has one place
 abbrev pub Distinct : List Node → Type 0
 Distinct nodes = (i j : ℕ) (n : Node) → slice_get nodes i ≡ Some n → slice_get nodes j ≡ Some n → i ≡ j

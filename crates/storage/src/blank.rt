@@ -5,7 +5,7 @@ use crate::question::Question;
 use model::Root;
 
 /// A memo that never holds an answer.
-#[derive(Clone, Copy)]
+#[derive(Clone, Copy, Debug, PartialEq, Eq)]
 pub struct BlankMemo;
 
 impl Memo for BlankMemo {
@@ -13,9 +13,7 @@ impl Memo for BlankMemo {
 
     ghost lent = { λ _. 0 };
 
-    ghost sound = { λ _. Unit {0} };
-
-    ghost once = { λ _ _. tt };
+    ghost once = { λ _. tt };
 
     fn ask(&self, _question: Question) -> Option<Root> {
         None

@@ -1,11 +1,12 @@
 ghost use Rattle.std.specs.Prelude.{◌≡◌};
 ghost use Rattle.storage.specs.Runs.{Alike, Does};
+ghost use Rattle.storage.specs.Stores.{KeepsMemory};
 
 use crate::store::Store;
 use model::{Fault, Node};
 
 /// A call of a store.
-#[derive(Clone, Copy)]
+#[derive(Clone, Copy, Debug, PartialEq, Eq)]
 pub enum StoreCall {
     Clear,
     FindOrAdd(Node),
@@ -16,7 +17,7 @@ pub enum StoreCall {
 }
 
 /// What a store answers.
-#[derive(Drop)]
+#[derive(Debug, Drop, PartialEq, Eq)]
 pub enum StoreAnswer {
     Done,
     Placed(Result<usize, Fault>),
@@ -24,13 +25,11 @@ pub enum StoreAnswer {
     Held(Option<Node>),
 }
 
+// Calls are data here and no closures, since the law speaks of every list of calls.
 /// Makes a call of a store, whatever kind of store it is.
 pub fn perform<S: Store>(store: &mut S, call: StoreCall) -> StoreAnswer
-    requires sound { S.Store.sound store.old }
-    ensures sound { S.Store.sound store.new }
     ensures does { Does (S.Store.capacity store.old) (S.Store.nodes store.old) call result (S.Store.nodes store.new) }
-    ensures capacity { S.Store.capacity store.new ≡ S.Store.capacity store.old }
-    ensures lent { S.Store.lent store.new ≡ S.Store.lent store.old }
+    ensures memory { KeepsMemory S.Store.capacity S.Store.lent store.old store.new }
     ensures alike { Alike (S.Store.capacity store.old) }
 {
     match call {

@@ -13,27 +13,20 @@ pub trait Memo {
     // the memory that was lent
     ghost lent: { Self → ℕ };
 
-    // what each call asks and gives back
-    ghost sound: { Self → Type 0 };
-
-    // what every memo owes
-    ghost once: { (m : Self) → sound m → NoneTwice (answers m) };
-
     /// The answer to a question, if it is there.
     fn ask(&self, question: Question) -> Option<Root>
-        requires sound { sound self.now }
         ensures { Recalls (answers self.now) question result };
 
     /// Takes an answered question in, perhaps, and may drop others.
     fn keep(&mut self, question: Question, answer: Root)
-        requires sound { sound self.old }
-        ensures sound { sound self.new }
         ensures answers { Keeps (answers self.old) question answer (answers self.new) }
         ensures lent { lent self.new ≡ lent self.old };
 
     /// No answer is left.
     fn forget(&mut self)
-        ensures sound { sound self.new }
         ensures answers { answers self.new ≡ [] }
         ensures lent { lent self.new ≡ lent self.old };
+
+    // what every memo owes
+    ghost once: { (m : Self) → NoneTwice (answers m) };
 }

@@ -6,28 +6,23 @@ use crate::spread::spread;
 use model::Root;
 
 /// What is worked out of diagrams.
-#[derive(Clone, Copy)]
+#[derive(Clone, Copy, Debug, PartialEq, Eq)]
 pub enum Operation {
-    Sum,
-    Minus,
-    Times,
+    Sum = 0,
+    Minus = 1,
+    Times = 2,
 }
 
-impl Operation {
-    /// The number of the operation: 0 for a sum, 1 for a minus, 2 for a product.
-    pub fn number(self) -> u8
-        ensures { result ≡ operation_number self }
-    {
-        match self {
-            Operation::Sum => 0,
-            Operation::Minus => 1,
-            Operation::Times => 2,
-        }
+impl From<Operation> for u8 {
+    ghost from_gives = { λ operation number. number ≡ operation_number operation };
+
+    fn from(operation: Operation) -> u8 {
+        operation as u8
     }
 }
 
 /// An operation and its roots.
-#[derive(Clone, Copy, PartialEq, Eq)]
+#[derive(Clone, Copy, Debug, PartialEq, Eq)]
 pub enum Question {
     Sum(Root, Root),
     Minus(Root),
@@ -49,7 +44,7 @@ impl Question {
     pub(crate) fn hash(self) -> u32
         ensures { result ≡ question_hash self }
     {
-        let kind = self.operation().number();
+        let kind = u8::from(self.operation());
         match self {
             Question::Sum(a, b) | Question::Times(a, b) => spread(kind, &a, &b),
             // a minus has no second root
@@ -59,7 +54,7 @@ impl Question {
 }
 
 /// A question with its answer.
-#[derive(Clone, Copy)]
+#[derive(Clone, Copy, Debug, PartialEq, Eq)]
 pub struct Answered {
     pub question: Question,
     pub answer: Root,

@@ -1,7 +1,7 @@
 ghost use Rattle.std.specs.Prelude.{◌≡◌, ℕ, List, [], length, take};
 ghost use Rattle.model.specs.declared.node.Node.{Node};
 ghost use Rattle.std.specs.List.{slice_get};
-ghost use Rattle.storage.specs.Stores.{FindsOrAdds, Stored};
+ghost use Rattle.storage.specs.Stores.{FindsOrAdds, KeepsMemory, Stored};
 
 use model::{Fault, Node};
 
@@ -16,34 +16,20 @@ pub trait Store {
     // the memory that was lent
     ghost lent: { Self → ℕ };
 
-    // what each call asks and gives back
-    ghost sound: { Self → Type 0 };
-
-    // what every store owes
-    ghost stored: { (s : Self) → sound s → Stored (capacity s) (nodes s) };
-
     /// No node is left.
     fn clear(&mut self)
-        ensures sound { sound self.new }
         ensures nodes { nodes self.new ≡ [] }
-        ensures capacity { capacity self.new ≡ capacity self.old }
-        ensures lent { lent self.new ≡ lent self.old };
+        ensures memory { KeepsMemory capacity lent self.old self.new };
 
     /// The place of the node, which is added if it is not there. A full store refuses a new node.
     fn find_or_add(&mut self, node: Node) -> Result<usize, Fault>
-        requires sound { sound self.old }
-        ensures sound { sound self.new }
         ensures nodes { FindsOrAdds (capacity self.old) (nodes self.old) node result (nodes self.new) }
-        ensures capacity { capacity self.new ≡ capacity self.old }
-        ensures lent { lent self.new ≡ lent self.old };
+        ensures memory { KeepsMemory capacity lent self.old self.new };
 
     /// Keeps the first `count` nodes, or all if there are fewer.
     fn cut(&mut self, count: usize)
-        requires sound { sound self.old }
-        ensures sound { sound self.new }
         ensures nodes { nodes self.new ≡ take count (nodes self.old) }
-        ensures capacity { capacity self.new ≡ capacity self.old }
-        ensures lent { lent self.new ≡ lent self.old };
+        ensures memory { KeepsMemory capacity lent self.old self.new };
 
     /// How many nodes can be held.
     fn capacity(&self) -> usize
@@ -51,11 +37,12 @@ pub trait Store {
 
     /// How many nodes are held.
     fn len(&self) -> usize
-        requires sound { sound self.now }
         ensures { result ≡ length (nodes self.now) };
 
     /// The node at a place.
     fn node(&self, place: usize) -> Option<Node>
-        requires sound { sound self.now }
         ensures { result ≡ slice_get (nodes self.now) place };
+
+    // what every store owes
+    ghost stored: { (s : Self) → Stored (capacity s) (nodes s) };
 }

@@ -1,4 +1,5 @@
 -- The first node of an empty store.
+use Rattle.std.proofs.lemmas.Option.{none-some}
 use Rattle.std.proofs.Common.{◌≡◌, ℕ, ◌<◌, List, [], ◌∷◌, ◌++◌, length, take, Some, Result, sym, ap, ◌∙◌, arith}
 use Rattle.std.proofs.lemmas.List.{length-take}
 use Rattle.std.specs.List.{slice_get}
@@ -8,11 +9,11 @@ use Rattle.storage.specs.Runs.{Does, seeks}
 use Rattle.storage.specs.Stores.{FindsOrAdds, found, appended, refused}
 use Rattle.storage.specs.declared.calls.StoreAnswer.{StoreAnswer}
 use Rattle.storage.specs.declared.calls.StoreCall.TheVariants.{FindOrAdd}
-use Rattle.table.proofs.Numbered.{none_some, nth_take}
+use Rattle.table.proofs.Numbered.{nth_take}
 
 module _ (capacity : ℕ) (nodes : List Node) (n : Node) (none : nodes ≡ []) (room : 0 < capacity) where
   first_sought : (r : Result ℕ Fault) (after : List Node) → FindsOrAdds capacity nodes n r after → after ≡ n ∷ []
-  first_sought _ _ (found place is) = absurd (none_some n (ap (λ ns. slice_get ns place) (sym none) ∙ is))
+  first_sought _ _ (found place is) = absurd (none-some n (ap (λ ns. slice_get ns place) (sym none) ∙ is))
   first_sought _ _ (appended absent few) = ap (λ ns. ns ++ (n ∷ [])) none
   first_sought _ _ (refused absent full) = absurd (omega (arith, ap length none))
 

@@ -16,11 +16,7 @@ pub fn recall_or_add<S: Store, M: Memo>(
     question: Question,
     node: Node,
 ) -> Result<Root, Fault>
-    requires store { S.Store.sound store.old }
-    requires memo { M.Memo.sound memo.old }
-    ensures store { S.Store.sound store.new }
-    ensures memo { M.Memo.sound memo.new }
-    ensures root { MatchResult result (λ a. Member (answered question a) (M.Memo.answers memo.old) ⊎ ((place : ℕ) × (a ≡ Inner place) × (slice_get (S.Store.nodes store.new) place ≡ Some node))) (λ f. f ≡ fault StoreFull 0) }
+    ensures { MatchResult result (λ a. Member (answered question a) (M.Memo.answers memo.old) ⊎ ((place : ℕ) × (a ≡ Inner place) × (slice_get (S.Store.nodes store.new) place ≡ Some node))) (λ f. f ≡ fault StoreFull 0) }
 {
     if let Some(root) = memo.ask(question) {
         return Ok(root);

@@ -7,23 +7,15 @@ fn leaf(value: u32) -> Root {
     Root::Leaf(value)
 }
 
-// The value of a leaf that a memo answers.
-fn value(answer: Option<Root>) -> Option<u32> {
-    match answer {
-        Some(Root::Leaf(value)) => Some(value),
-        _ => None,
-    }
-}
-
 #[test]
 fn no_slots(rt: HostRuntime) {
     let mut slots: [Option<Answered>; 0] = [];
     let mut memo = SlotMemo::new(&mut slots);
     let minus = Question::Minus(Root::Inner(3));
     memo.keep(minus, leaf(7));
-    assert!(rt; memo.ask(minus).is_none());
+    assert_eq!(rt; memo.ask(minus), None);
     memo.forget();
-    assert!(rt; memo.ask(minus).is_none());
+    assert_eq!(rt; memo.ask(minus), None);
 }
 
 #[test]
@@ -36,18 +28,18 @@ fn one_slot(rt: HostRuntime) {
     })];
     let mut memo = SlotMemo::new(&mut slots);
     assert_eq!(rt;
-        value(memo.ask(sum)),
+        memo.ask(sum),
         None,
         "what the slots held before does not matter"
     );
     memo.keep(sum, leaf(6));
-    assert_eq!(rt; value(memo.ask(sum)), Some(6));
-    assert_eq!(rt; value(memo.ask(times)), None, "another operation");
+    assert_eq!(rt; memo.ask(sum), Some(leaf(6)));
+    assert_eq!(rt; memo.ask(times), None, "another operation");
     memo.keep(times, leaf(7));
-    assert_eq!(rt; value(memo.ask(times)), Some(7));
-    assert_eq!(rt; value(memo.ask(sum)), None, "a new one over an old one");
+    assert_eq!(rt; memo.ask(times), Some(leaf(7)));
+    assert_eq!(rt; memo.ask(sum), None, "a new one over an old one");
     memo.forget();
-    assert_eq!(rt; value(memo.ask(times)), None);
+    assert_eq!(rt; memo.ask(times), None);
 }
 
 #[test]
@@ -55,9 +47,9 @@ fn blank(rt: HostRuntime) {
     let mut memo = BlankMemo;
     let sum = Question::Sum(leaf(1), Root::Inner(2));
     memo.keep(sum, leaf(6));
-    assert_eq!(rt; value(memo.ask(sum)), None);
+    assert_eq!(rt; memo.ask(sum), None);
     memo.forget();
-    assert_eq!(rt; value(memo.ask(sum)), None);
+    assert_eq!(rt; memo.ask(sum), None);
 }
 
 #[test]
@@ -86,8 +78,8 @@ fn many_slots(rt: HostRuntime) -> Result<(), Fail> {
     let turned = Question::Sum(Root::Inner(2), leaf(1));
     memo.keep(sum, leaf(6));
     memo.keep(turned, leaf(7));
-    assert_eq!(rt; value(memo.ask(sum)), Some(6));
-    assert_eq!(rt; value(memo.ask(turned)), Some(7));
-    assert_eq!(rt; value(memo.ask(Question::Minus(leaf(1)))), None);
+    assert_eq!(rt; memo.ask(sum), Some(leaf(6)));
+    assert_eq!(rt; memo.ask(turned), Some(leaf(7)));
+    assert_eq!(rt; memo.ask(Question::Minus(leaf(1))), None);
     Ok(())
 }

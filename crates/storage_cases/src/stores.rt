@@ -1,5 +1,5 @@
 use super::generic::lend;
-use model::{Fault, Node, Root};
+use model::{Node, Refusal, Root};
 use std::process::Abort;
 use std::test::Fail;
 use storage::{HashedStore, NodeKey, PlainStore, Store, StoreAnswer, StoreCall, perform};
@@ -13,77 +13,59 @@ fn node(fact: u8, low: u32, high: u32) -> Node {
     }
 }
 
-// The place that was answered, or the number and place of the refusal.
-fn told(answer: Result<usize, Fault>) -> (usize, Option<u8>) {
-    match answer {
-        Ok(place) => (place, None),
-        Err(fault) => (fault.place, Some(fault.refusal.number())),
-    }
-}
-
-fn no_memory<S: Store>(rt: &impl Abort, store: &mut S)
-    requires { S.Store.sound store.old }
-    ensures { S.Store.sound store.new }
-{
+fn no_memory<S: Store>(rt: &impl Abort, store: &mut S) {
     assert_eq!(rt; store.capacity(), 0);
-    assert_eq!(rt; told(store.find_or_add(node(0, 1, 2))), (0, Some(16)));
+    assert_eq!(rt;
+        store.find_or_add(node(0, 1, 2)),
+        Err(Refusal::StoreFull.at(0))
+    );
     store.cut(5);
     assert_eq!(rt; store.len(), 0);
     store.clear();
-    assert!(rt; store.node(0).is_none());
+    assert_eq!(rt; store.node(0), None);
 }
 
-fn one_cell<S: Store>(rt: &impl Abort, store: &mut S)
-    requires { S.Store.sound store.old }
-    ensures { S.Store.sound store.new }
-{
-    assert_eq!(rt; told(store.find_or_add(node(3, 1, 2))), (0, None));
+fn one_cell<S: Store>(rt: &impl Abort, store: &mut S) {
+    assert_eq!(rt; store.find_or_add(node(3, 1, 2)), Ok(0));
     assert_eq!(rt;
-        told(store.find_or_add(node(4, 1, 2))),
-        (0, Some(16)),
+        store.find_or_add(node(4, 1, 2)),
+        Err(Refusal::StoreFull.at(0)),
         "full"
     );
     assert_eq!(rt;
-        told(store.find_or_add(node(3, 1, 2))),
-        (0, None),
+        store.find_or_add(node(3, 1, 2)),
+        Ok(0),
         "an equal node is found in a full store"
     );
     store.cut(0);
-    assert_eq!(rt; told(store.find_or_add(node(4, 1, 2))), (0, None));
+    assert_eq!(rt; store.find_or_add(node(4, 1, 2)), Ok(0));
     assert_eq!(rt; store.len(), 1);
 }
 
-fn several<S: Store>(rt: &impl Abort, store: &mut S)
-    requires { S.Store.sound store.old }
-    ensures { S.Store.sound store.new }
-{
+fn several<S: Store>(rt: &impl Abort, store: &mut S) {
     let leaf = Node {
         fact: 3,
         low: Root::Leaf(1),
         high: Root::Inner(2),
     };
-    assert_eq!(rt; told(store.find_or_add(node(3, 1, 2))), (0, None));
+    assert_eq!(rt; store.find_or_add(node(3, 1, 2)), Ok(0));
+    assert_eq!(rt; store.find_or_add(leaf), Ok(1), "a leaf is no node");
     assert_eq!(rt;
-        told(store.find_or_add(leaf)),
-        (1, None),
-        "a leaf is no node"
-    );
-    assert_eq!(rt;
-        told(store.find_or_add(node(3, 2, 1))),
-        (2, None),
+        store.find_or_add(node(3, 2, 1)),
+        Ok(2),
         "low and high differ"
     );
-    assert_eq!(rt; told(store.find_or_add(leaf)), (1, None), "found again");
+    assert_eq!(rt; store.find_or_add(leaf), Ok(1), "found again");
     store.cut(2);
-    assert!(rt; store.node(2).is_none(), "cut off");
+    assert_eq!(rt; store.node(2), None, "cut off");
     assert_eq!(rt;
-        told(store.find_or_add(node(9, 2, 1))),
-        (2, None),
+        store.find_or_add(node(9, 2, 1)),
+        Ok(2),
         "places go on where the cut was"
     );
     store.clear();
     assert_eq!(rt; store.len(), 0);
-    assert_eq!(rt; told(store.find_or_add(leaf)), (0, None));
+    assert_eq!(rt; store.find_or_add(leaf), Ok(0));
 }
 
 #[test]
@@ -115,20 +97,8 @@ fn much_memory(rt: HostRuntime) -> Result<(), Fail> {
     Ok(())
 }
 
-// An answer as two numbers: its kind, and what it holds.
-fn shown(answer: StoreAnswer) -> (u8, usize) {
-    match answer {
-        StoreAnswer::Done => (0, 0),
-        StoreAnswer::Placed(Ok(place)) => (1, place),
-        StoreAnswer::Placed(Err(fault)) => (2, fault.place),
-        StoreAnswer::Number(number) => (3, number),
-        StoreAnswer::Held(None) => (4, 0),
-        StoreAnswer::Held(Some(node)) => (5, usize::from(node.fact)),
-    }
-}
-
 #[test]
-fn alike(rt: HostRuntime) -> Result<(), Fail> {
+fn alike(rt: HostRuntime) {
     let calls = [
         StoreCall::FindOrAdd(node(1, 0, 0)),
         StoreCall::FindOrAdd(node(2, 0, 0)),
@@ -148,17 +118,13 @@ fn alike(rt: HostRuntime) -> Result<(), Fail> {
     let mut plain = PlainStore::new(&mut nodes);
     let mut hashed = HashedStore::new(&mut cells);
     for call in calls {
-        assert_eq!(rt;
-            shown(perform(&mut plain, call)),
-            shown(perform(&mut hashed, call))
-        );
+        assert_eq!(rt; perform(&mut plain, call), perform(&mut hashed, call));
     }
-    Ok(())
 }
 
 #[test]
 fn lent(rt: HostRuntime) {
     let mut nodes = [node(1, 0, 0); 2];
     lend(&mut nodes, node(7, 8, 9));
-    assert!(rt; nodes[0] == node(7, 8, 9));
+    assert_eq!(rt; nodes[0], node(7, 8, 9));
 }

@@ -3,8 +3,6 @@
 // beforehand.
 #![tactic(auto)]
 
-ghost use Rattle.storage.specs.HashedStores.{Sound};
-
 use nodes::nth;
 use std::env;
 use std::time::Instant;
@@ -14,11 +12,9 @@ use table::Cell;
 mod nodes;
 
 // How many of the first `count` nodes the store answers a place for that is the node's number.
-fn place_all(store: &mut HashedStore, count: u32) -> u32
-    requires { Sound store.old }
-    ensures { Sound store.new }
-{
+fn place_all(store: &mut HashedStore, count: u32) -> u32 {
     let mut placed: u32 = 0;
+    // no `filter`, whose test is not to change the store
     for i in 0..count {
         if let Ok(place) = store.find_or_add(nth(i))
             && place == i as usize

@@ -2,13 +2,13 @@
 use Rattle.std.proofs.Common.{◌≡◌, ℕ, zero, suc, ◌+◌, ◌<◌, ◌≤◌, true, false, cond, eqb, List, [], ◌∷◌, ◌++◌, map, length, get_or, take, Some, None, Option, sym, refl, ap, ◌∙◌, ⊎_elim, arith}
 use Rattle.std.proofs.lemmas.List.FromFn.{length-map-range_with_len, get_or-map-range_with_len, map-range_with_len_more}
 use Rattle.std.proofs.lemmas.List.{length_push, take_more, take_all, append-nil}
-use Rattle.std.proofs.lemmas.Option.{slice_get_past, slice_get-get_or}
+use Rattle.std.proofs.lemmas.Option.{slice_get_past, slice_get-get_or, none-some, same_Some}
 use Rattle.std.proofs.lemmas.Bool.{cases_Bool, cases_lt, cond-true, cond-false}
 use Rattle.std.specs.List.{range_with_len, slice_get}
 use Rattle.table.specs.Cells.{put_front, keys_in}
 use Rattle.table.specs.Filled.{home, falls_on, latest, before, cell_of, filled}
 use Rattle.table.specs.declared.cell.Cell.{Cell}
-use Rattle.table.proofs.Numbered.{none_some, same_some, nth_some, nth_before, nth_here}
+use Rattle.table.proofs.Numbered.{nth_some, nth_before, nth_here}
 
 module _ {K : Type 0} (code : K → ℕ) (cap : ℕ) where
   -- what `latest` says: it is an earlier key of the chain, and none comes between
@@ -18,12 +18,12 @@ module _ {K : Type 0} (code : K → ℕ) (cap : ℕ) where
     pub none_between : (j : ℕ) → n < j → j < m → falls_on code cap b (slice_get keys j) ≡ false
 
   pub latest_some : (keys : List K) (b m n : ℕ) → latest code cap keys b m ≡ Some n → Latest keys b m n
-  latest_some keys b zero n e = absurd (none_some n e)
+  latest_some keys b zero n e = absurd (none-some n e)
   latest_some keys b (suc m) n e =
       let test = falls_on code cap b (slice_get keys m) in
       ⊎_elim
       (λ h.
-      let same : m ≡ n = same_some m n (sym (cond-true test (Some m) (latest code cap keys b m) h) ∙ e) in
+      let same : m ≡ n = same_Some m n (sym (cond-true test (Some m) (latest code cap keys b m) h) ∙ e) in
       record {
         earlier = omega arith;
         falls = ap (λ k. falls_on code cap b (slice_get keys k)) (sym same) ∙ h;
@@ -43,7 +43,7 @@ module _ {K : Type 0} (code : K → ℕ) (cap : ℕ) where
   latest_none keys b (suc m) e j lt =
       let test = falls_on code cap b (slice_get keys m) in
       ⊎_elim
-      (λ h. absurd (none_some m (sym e ∙ cond-true test (Some m) (latest code cap keys b m) h)))
+      (λ h. absurd (none-some m (sym e ∙ cond-true test (Some m) (latest code cap keys b m) h)))
       (λ h.
       ⊎_elim
       (λ below. latest_none keys b m (sym (cond-false test (Some m) (latest code cap keys b m) h) ∙ e) j below)
@@ -83,7 +83,7 @@ module _ {K : Type 0} (code : K → ℕ) (cap : ℕ) where
       ∙ ⊎_elim
       (λ lt.
       let here = nth_some keys n lt in
-      let read : get_or keys n here.0 ≡ here.0 = same_some _ _ (sym (slice_get-get_or keys n here.0 lt) ∙ here.1) in
+      let read : get_or keys n here.0 ≡ here.0 = same_Some _ _ (sym (slice_get-get_or keys n here.0 lt) ∙ here.1) in
       (λ i. keys_counted keys n i ++ put_front (here.1 i) []) ∙ ap (λ k. take n keys ++ (k ∷ [])) (sym read) ∙ sym (take_more keys n here.0 lt))
       (λ le.
       (λ i. keys_counted keys n i ++ put_front (slice_get_past keys n le i) []) ∙ append-nil (take n keys) ∙ take_all n keys le ∙ sym (take_all (n + 1) keys (omega arith)))

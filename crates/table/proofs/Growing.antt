@@ -11,6 +11,14 @@ use Rattle.table.proofs.Chains.{length_filled, filled_at, cell_other, cell_new, 
 abbrev pub cell : {K : Type 0} → Option K → Option ℕ → Option ℕ → Cell K
 cell key first next = record { key = key; first = first; next = next }
 
+-- the new key's cell is written, and then the cell at which its chain begins
+abbrev pub chained : {K : Type 0} → List (Cell K) → ℕ → ℕ → Cell K → Cell K → List (Cell K)
+chained cells n h own d = set (set cells n own) h (cell (get_or (set cells n own) h d).key (Some n) (get_or (set cells n own) h d).next)
+
+-- the chain of the last key is mended, and then the key's cell is emptied
+abbrev pub unchained : {K : Type 0} → List (Cell K) → ℕ → ℕ → Cell K → Cell K → List (Cell K)
+unchained cells n h mended d = set (set cells h mended) n (cell None (get_or (set cells h mended) n d).first None)
+
 -- two lists are equal if they are at each place, which may be one of two
 by_places : {X : Type 0} (xs ys : List X) (a b : ℕ) (u v : X) → a < length xs → b < length xs → length ys ≡ length xs
     → ((d : X) → get_or ys b d ≡ v) → ((d : X) → (a ≡ b → ⊥) → get_or ys a d ≡ u)

@@ -1,23 +1,13 @@
 -- The element at a place of a list, if there is one.
-use Rattle.std.proofs.Common.{◌≡◌, ℕ, zero, suc, ◌+◌, ◌<◌, List, [], ◌∷◌, ◌++◌, length, take, Some, None, Option, refl, ap, ◌∙◌, arith}
+use Rattle.std.proofs.Common.{◌≡◌, ℕ, zero, suc, ◌+◌, ◌<◌, List, [], ◌∷◌, ◌++◌, length, take, Some, refl, ap, ◌∙◌, arith}
+use Rattle.std.proofs.lemmas.Option.{none-some, same_Some}
 use Rattle.std.specs.List.{slice_get}
 
 module _ {X : Type 0} where
-  pub none_some : (x : X) → ◌≡◌ {A = Option X} None (Some x) → ⊥
-  none_some x e = let z : ◌≡◌ {A = ℕ} 0 1 = cc in omega arith
-
-  pub same_some : (x y : X) → ◌≡◌ {A = Option X} (Some x) (Some y) → x ≡ y
-  same_some x y e = cc
-
   pub nth_some : (xs : List X) (i : ℕ) → i < length xs → (x : X) × (slice_get xs i ≡ Some x)
   nth_some [] i lt = absurd (omega arith)
   nth_some (x ∷ xs) zero lt = (x, refl)
   nth_some (x ∷ xs) (suc i) lt = nth_some xs i (omega arith)
-
-  pub nth_inside : (xs : List X) (i : ℕ) (x : X) → slice_get xs i ≡ Some x → i < length xs
-  nth_inside [] i x e = absurd (none_some x e)
-  nth_inside (y ∷ xs) zero x e = omega arith
-  nth_inside (y ∷ xs) (suc i) x e = omega (arith, nth_inside xs i x e)
 
   pub nth_before : (xs ys : List X) (i : ℕ) → i < length xs → slice_get (xs ++ ys) i ≡ slice_get xs i
   nth_before [] ys i lt = absurd (omega arith)
@@ -36,7 +26,7 @@ module _ {X : Type 0} where
 
   -- a list that is not empty, by its last element
   pub split_last : (xs : List X) (n : ℕ) (x : X) → length xs ≡ n + 1 → slice_get xs n ≡ Some x → xs ≡ take n xs ++ (x ∷ [])
-  split_last [] n x long e = absurd (none_some x e)
-  split_last (y ∷ []) zero x long e = ap (λ z. z ∷ []) (same_some y x e)
+  split_last [] n x long e = absurd (none-some x e)
+  split_last (y ∷ []) zero x long e = ap (λ z. z ∷ []) (same_Some y x e)
   split_last (y ∷ z ∷ xs) zero x long e = absurd (omega arith)
   split_last (y ∷ xs) (suc n) x long e = ap (λ zs. y ∷ zs) (split_last xs n x (omega arith) e)

@@ -1,4 +1,5 @@
 -- The laws over whole runs of a table.
+use Rattle.std.proofs.lemmas.Option.{same_Some, slice_get_within}
 use Rattle.std.proofs.Common.{◌≡◌, ℕ, Bool, true, List, [], ◌∷◌, ◌++◌, length, take, Some, Ok, All, Result, sym, refl, ap, ◌∙◌, ⊎_elim, arith}
 use Rattle.std.proofs.lemmas.List.{length-take}
 use Rattle.std.proofs.lemmas.List.Elements.{All-head, All-tail}
@@ -11,7 +12,7 @@ use Rattle.table.specs.Runs.{Event, sought, Does, seeks, cuts, clears, Runs, sta
 use Rattle.table.specs.Tables.{FindsOrAdds, found, appended, refused}
 use Rattle.table.specs.declared.cell.Cell.{Cell}
 use Rattle.table.specs.declared.table.Full.{Full}
-use Rattle.table.proofs.Numbered.{same_some, nth_inside, nth_before, nth_here, nth_take}
+use Rattle.table.proofs.Numbered.{nth_before, nth_here, nth_take}
 use Rattle.table.proofs.Soundness.{apart_more, none_apart}
 
 module _ {K : Type 0} (same : K → K → Bool) (cap : ℕ) where
@@ -26,7 +27,7 @@ module _ {K : Type 0} (same : K → K → Bool) (cap : ℕ) where
   apart_cut keys n apart i j x y lt at_i at_j =
       ⊎_elim
       (λ inside. apart i j x y lt (sym (nth_take n keys i (omega arith)) ∙ at_i) (sym (nth_take n keys j inside) ∙ at_j))
-      (λ past. absurd (omega (arith, nth_inside (take n keys) j y at_j, length-take n keys)))
+      (λ past. absurd (omega (arith, slice_get_within (take n keys) j y at_j, length-take n keys)))
       (cases_lt j n)
 
   apart_does : (keys after : List K) (e : Event K) → Apart same keys → Does same cap keys e after → Apart same after
@@ -56,7 +57,7 @@ module _ {K : Type 0} (same : K → K → Bool) (cap : ℕ) where
 
   kept_sought : (keys : List K) (k : K) (r : Result ℕ Full) (after : List K) (n : ℕ) (x : K) → slice_get keys n ≡ Some x → FindsOrAdds same cap keys k r after → slice_get after n ≡ Some x
   kept_sought keys k _ _ n x is (found m held) = is
-  kept_sought keys k _ _ n x is (appended none room) = nth_before keys (k ∷ []) n (nth_inside keys n x is) ∙ is
+  kept_sought keys k _ _ n x is (appended none room) = nth_before keys (k ∷ []) n (slice_get_within keys n x is) ∙ is
   kept_sought keys k _ _ n x is (refused full none long) = is
 
   kept_does : (keys after : List K) (e : Event K) (n : ℕ) (x : K) → Spares n e → slice_get keys n ≡ Some x → Does same cap keys e after → slice_get after n ≡ Some x
@@ -76,8 +77,8 @@ module _ {K : Type 0} (same : K → K → Bool) (cap : ℕ) where
 
     -- a later answer for j, where the number n has the key x
     later_same : (keys : List K) (j : K) (m : ℕ) (after : List K) (n : ℕ) (x : K) → slice_get keys n ≡ Some x → FindsOrAdds same cap keys j (Ok m) after → n ≡ m → same x j ≡ true
-    later_same keys j _ _ n x is (found m (y, at-m, eq)) e = ap (λ z. same z j) (same_some x y (sym is ∙ ap (slice_get keys) e ∙ at-m)) ∙ eq
-    later_same keys j _ _ n x is (appended none room) e = absurd (omega (arith, nth_inside keys n x is))
+    later_same keys j _ _ n x is (found m (y, at-m, eq)) e = ap (λ z. same z j) (same_Some x y (sym is ∙ ap (slice_get keys) e ∙ at-m)) ∙ eq
+    later_same keys j _ _ n x is (appended none room) e = absurd (omega (arith, slice_get_within keys n x is))
 
     later_number : (keys : List K) (j : K) (m : ℕ) (after : List K) (n : ℕ) (x : K) → Apart same keys → slice_get keys n ≡ Some x → FindsOrAdds same cap keys j (Ok m) after → same x j ≡ true → n ≡ m
     later_number keys j _ _ n x apart is (found m (y, at-m, eq)) h =

@@ -1,39 +1,40 @@
 -- What a table's cells say of its keys, and what they are after a key has come or gone.
-use Rattle.std.proofs.Common.{◌≡◌, ℕ, ◌<◌, ◌≤◌, Bool, List, [], ◌∷◌, ◌++◌, length, get_or, set, Some, None, sym, ap, ◌∙◌, ⊎_elim, arith}
-use Rattle.std.proofs.lemmas.List.{length-set, length_push, get_or_default}
+use Rattle.std.proofs.lemmas.Option.{same_Some, slice_get_within}
+use Rattle.std.proofs.Common.{◌≡◌, ℕ, ◌<◌, ◌≤◌, Bool, List, [], ◌∷◌, ◌++◌, length, get_or, replicate, set, Some, sym, ap, ◌∙◌, ⊎_elim, arith}
+use Rattle.std.proofs.lemmas.List.{get_or-replicate, length-replicate, length-set, length_push, get_or_default}
+use Rattle.std.proofs.lemmas.List.FromFn.{fill_by_all}
 use Rattle.std.proofs.lemmas.Bool.{cases_lt}
 use Rattle.std.specs.List.{slice_get}
-use Rattle.table.specs.Cells.{keys_in}
+use Rattle.table.specs.Cells.{empty_cell, keys_in}
 use Rattle.table.specs.Filled.{home, latest, cell_of, filled, Filled}
 use Rattle.table.specs.Keys.{Absent, Apart}
 use Rattle.table.specs.declared.cell.Cell.{Cell}
 use Rattle.table.proofs.Chains.{length_filled, filled_at, keys_filled, cell_new}
-use Rattle.table.proofs.Growing.{cell, grown, shrunk}
-use Rattle.table.proofs.Numbered.{same_some, nth_inside, nth_before, nth_here}
+use Rattle.table.proofs.Growing.{cell, chained, grown, shrunk, unchained}
+use Rattle.table.proofs.Numbered.{nth_before, nth_here}
 
 module _ {K : Type 0} (code : K → ℕ) where
   pub filled_cell : (cells : List (Cell K)) → Filled code cells → (i : ℕ) (d : Cell K) → i < length cells → get_or cells i d ≡ cell_of code (length cells) (keys_in cells) i
   filled_cell cells so i d lt = ap (λ cs. get_or cs i d) so.all ∙ filled_at code (length cells) (keys_in cells) i d lt
 
-  -- cells that are those of some keys: which keys, and how many cells
-  module _ (cells : List (Cell K)) (cap : ℕ) (keys : List K) (is : cells ≡ filled code cap keys) (few : length keys ≤ cap) where
-    pub cells_long : length cells ≡ cap
-    cells_long = ap length is ∙ length_filled code cap keys
+  -- the cells of a table of so many cells, and of these keys
+  pub record Holds (cells : List (Cell K)) (cap : ℕ) (keys : List K) : Type 0 where
+    pub long : length cells ≡ cap
+    pub held : keys_in cells ≡ keys
+    pub filled : Filled code cells
 
-    pub cells_keys : keys_in cells ≡ keys
-    cells_keys = ap keys_in is ∙ keys_filled code cap keys few
+  pub holds : (cells : List (Cell K)) (cap : ℕ) (keys : List K) → cells ≡ filled code cap keys → length keys ≤ cap → Holds cells cap keys
+  holds cells cap keys is few =
+      let long = ap length is ∙ length_filled code cap keys in
+      let held = ap keys_in is ∙ keys_filled code cap keys few in
+      record { long = long; held = held; filled = record { few = omega (arith, ap length held); all = is ∙ (λ i. filled code (sym long i) (sym held i)) } }
 
-    pub cells_filled : Filled code cells
-    cells_filled = record {
-      few = omega (arith, cells_long, ap length cells_keys);
-      all = is ∙ (λ i. filled code (sym cells_long i) (sym cells_keys i));
-    }
+  -- empty cells hold no keys
+  pub holds_none : (cells : List (Cell K)) (n : ℕ) → cells ≡ replicate n empty_cell → Holds cells n []
+  holds_none cells n is =
+      holds cells n [] (is ∙ fill_by_all (cell_of code n []) (replicate n empty_cell) n empty_cell (length-replicate n empty_cell) (λ k lt. get_or-replicate n k empty_cell empty_cell lt)) (omega arith)
 
   -- ---- one key more
-
-  -- the new key's cell is written, and then the cell at which its chain begins
-  abbrev chained : List (Cell K) → ℕ → ℕ → Cell K → Cell K → List (Cell K)
-  chained cells n h own d = set (set cells n own) h (cell (get_or (set cells n own) h d).key (Some n) (get_or (set cells n own) h d).next)
 
   pub one_more : (cells : List (Cell K)) (cap : ℕ) (keys : List K) (k : K) (n h : ℕ) (c d e : Cell K)
       → cells ≡ filled code cap keys → n ≡ length keys → h ≡ home code cap k → n < cap → h < cap
@@ -49,9 +50,6 @@ module _ {K : Type 0} (code : K → ℕ) where
       ∙ grown code cap keys k room inside (get_or (set old (length keys) own) (home code cap k) e) (get_or_default (set old (length keys) own) (home code cap k) e _ (omega arith))
 
   -- ---- the last key goes
-
-  abbrev unchained : List (Cell K) → ℕ → ℕ → Cell K → Cell K → List (Cell K)
-  unchained cells n h mended d = set (set cells h mended) n (cell None (get_or (set cells h mended) n d).first None)
 
   pub one_less : (cells : List (Cell K)) (cap : ℕ) (keys : List K) (k : K) (n h : ℕ) (c d e : Cell K)
       → cells ≡ filled code cap (keys ++ (k ∷ [])) → n ≡ length keys → h ≡ home code cap k → n < cap → h < cap
@@ -74,18 +72,18 @@ module _ {K : Type 0} (same : K → K → Bool) where
   pub apart_more : (keys : List K) (k : K) → Apart same keys → Absent same keys k → Apart same (keys ++ (k ∷ []))
   apart_more keys k apart none i j x y lt at_i at_j =
       let long = length_push keys k in
-      let last : j < length (keys ++ (k ∷ [])) = nth_inside (keys ++ (k ∷ [])) j y at_j in
+      let last : j < length (keys ++ (k ∷ [])) = slice_get_within (keys ++ (k ∷ [])) j y at_j in
       let old : slice_get keys i ≡ Some x = sym (nth_before keys (k ∷ []) i (omega arith)) ∙ at_i in
       ⊎_elim
       (λ inside. apart i j x y lt old (sym (nth_before keys (k ∷ []) j inside) ∙ at_j))
       (λ end.
-      let here : k ≡ y = same_some k y (sym (nth_here keys k [] j (omega arith)) ∙ at_j) in
+      let here : k ≡ y = same_Some k y (sym (nth_here keys k [] j (omega arith)) ∙ at_j) in
       ap (same x) (sym here) ∙ none i x old)
       (cases_lt j (length keys))
 
   pub apart_less : (keys : List K) (k : K) → Apart same (keys ++ (k ∷ [])) → Apart same keys
   apart_less keys k apart i j x y lt at_i at_j =
-      apart i j x y lt (nth_before keys (k ∷ []) i (nth_inside keys i x at_i) ∙ at_i) (nth_before keys (k ∷ []) j (nth_inside keys j y at_j) ∙ at_j)
+      apart i j x y lt (nth_before keys (k ∷ []) i (slice_get_within keys i x at_i) ∙ at_i) (nth_before keys (k ∷ []) j (slice_get_within keys j y at_j) ∙ at_j)
 
   pub none_apart : (keys : List K) → keys ≡ [] → Apart same keys
-  none_apart keys none i j x y lt at_i at_j = absurd (omega (arith, nth_inside keys i x at_i, ap length none))
+  none_apart keys none i j x y lt at_i at_j = absurd (omega (arith, slice_get_within keys i x at_i, ap length none))

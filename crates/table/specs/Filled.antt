@@ -1,5 +1,6 @@
 -- The cells that hold a list of keys: they depend on the keys and the capacity alone.
-use Rattle.std.specs.Prelude.{◌≡◌, ℕ, zero, suc, ◌%◌, ◌≤◌, Bool, false, cond, List, map, length, Some, None, Option, ◌==◌}
+use Rattle.std.specs.Prelude.{◌≡◌, ℕ, zero, suc, ◌%◌, ◌≤◌, Bool, false, cond, List, map, length, Some, None, Option, ◌==◌, refl}
+use Rattle.std.specs.Coded.{Coded, Coded-set, code_by, coded_list, coded_option, coded×, coded_ℕ, le_prop}
 use Rattle.std.specs.List.{range_with_len, slice_get}
 use Rattle.table.specs.Cells.{keys_in}
 use Rattle.table.specs.declared.cell.Cell.{Cell}
@@ -34,6 +35,12 @@ pub record Filled {K : Type 0} (code : K → ℕ) (cells : List (Cell K)) : Type
   pub few : length (keys_in cells) ≤ length cells
   pub all : cells ≡ filled code (length cells) (keys_in cells)
 
--- where the chain of a key begins
-abbrev pub chain : {K : Type 0} → (K → ℕ) → List (Cell K) → K → Option ℕ
-chain code cells k = latest code (length cells) (keys_in cells) (home code (length cells) k) (length (keys_in cells))
+-- a cell is stored as the tuple of its fields
+abbrev coded_cell : {K : Type 0} → Coded K → Coded (Cell K)
+coded_cell {K} key =
+    code_by (Option K × (Option ℕ × Option ℕ)) (coded× (coded_option key) (coded× (coded_option coded_ℕ) (coded_option coded_ℕ)))
+    (λ c. (c.key, (c.first, c.next))) (λ p. record { key = p.0; first = p.1.0; next = p.1.1 }) (λ _. refl)
+
+-- that cells are so has one proof at most
+pub filled_prop : {K : Type 0} → Coded K → (code : K → ℕ) (cells : List (Cell K)) → IsProp (Filled code cells)
+filled_prop key code cells p q = λ i. record { few = le_prop p.few q.few i; all = Coded-set (coded_list (coded_cell key)) cells (filled code (length cells) (keys_in cells)) p.all q.all i }

@@ -1,4 +1,4 @@
-ghost use Rattle.std.specs.Prelude.{◌≡◌, ◌<◌, length, slice_index_or};
+ghost use Rattle.std.specs.Prelude.{◌≡◌, length, replicate};
 ghost use Rattle.table.specs.Cells.{empty_cell};
 ghost use Rattle.table.specs.Keys.{has_same};
 
@@ -31,19 +31,15 @@ impl<K: Copy> Cell<K> {
 impl<K: Key> Cell<K> {
     // Whether the cell holds a key that is equal to this one.
     pub(crate) fn holds(&self, key: &K) -> bool
-        ensures { result ≡ has_same K.Key.same key.now self.now.key }
+        ensures { result ≡ has_same K.eq key.now self.now.key }
     {
-        match self.key {
-            Some(held) => held.equals(key),
-            None => false,
-        }
+        self.key.is_some_and(|held| held == *key)
     }
 }
 
-// A copy of one of the cells.
-pub(crate) fn cell_at<K: Copy>(cells: &[Cell<K>], number: usize) -> Cell<K>
-    requires { number < length cells.now }
-    ensures { result ≡ slice_index_or cells.now number empty_cell }
+// Empties all the cells.
+pub(crate) fn empty_all<K: Copy>(cells: &mut [Cell<K>])
+    ensures { cells.new ≡ replicate (length cells.old) empty_cell }
 {
-    cells[number]
+    cells.fill(Cell::empty());
 }

@@ -1,19 +1,12 @@
-ghost use Rattle.std.specs.Prelude.{◌≡◌, ℕ, Bool};
-ghost use Rattle.table.specs.Keys.{KeyLaws};
+ghost use Rattle.std.specs.Prelude.{◌≡◌, ℕ, true};
 
 /// What can lie in a table. Equal keys share a number; they need not be identical.
-pub trait Key: Copy {
-    // whether two keys are equal
-    ghost same: { Self → Self → Bool };
-
+pub trait Key: Copy + Eq {
     ghost code: { Self → ℕ };
-
-    // an equivalence, and equal keys have equal hashes
-    ghost laws: { KeyLaws same code };
-
-    fn equals(&self, other: &Self) -> bool
-        ensures { result ≡ same self.now other.now };
 
     fn hash(&self) -> u32
         ensures { result ≡ code self.now };
+
+    // equal keys have equal hashes
+    ghost same_code: { (x y : Self) → Self.eq x y ≡ true → code x ≡ code y };
 }

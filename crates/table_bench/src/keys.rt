@@ -1,9 +1,10 @@
-ghost use Rattle.table_bench.specs.Scattering.{same_number, scattered_laws, upper_half};
+ghost use Rattle.std.proofs.Common.{rules};
+ghost use Rattle.std.specs.Prelude.{◌/◌, ◌^◌};
 
 use table::Key;
 
 // A number that is one of a sequence of scattered ones.
-#[derive(Clone, Copy)]
+#[derive(Clone, Copy, PartialEq, Eq)]
 pub struct Scattered(pub u64);
 
 impl Scattered {
@@ -14,15 +15,10 @@ impl Scattered {
 }
 
 impl Key for Scattered {
-    ghost same = { same_number };
+    // the upper half of the number
+    ghost code = { λ x. x.0 / 2 ^ 32 };
 
-    ghost code = { upper_half };
-
-    ghost laws = { scattered_laws };
-
-    fn equals(&self, other: &Scattered) -> bool {
-        self.0 == other.0
-    }
+    ghost same_code = { Prim.search rules };
 
     fn hash(&self) -> u32 {
         (self.0 >> 32) as u32

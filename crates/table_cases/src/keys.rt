@@ -1,22 +1,16 @@
-ghost use Rattle.std.specs.Prelude.{◌%◌, ◌==◌};
-ghost use Rattle.table.specs.KeysBy.{laws_by};
+ghost use Rattle.std.proofs.Common.{rules};
+ghost use Rattle.std.specs.Prelude.{◌%◌};
 
 use table::Key;
 
 // A plain number.
-#[derive(Clone, Copy)]
+#[derive(Clone, Copy, Debug, PartialEq, Eq)]
 pub struct Number(pub u32);
 
 impl Key for Number {
-    ghost same = { λ x y. (x.0 == y.0) };
-
     ghost code = { λ x. x.0 };
 
-    ghost laws = { laws_by (λ x. x.0) (λ n. n) };
-
-    fn equals(&self, other: &Number) -> bool {
-        self.0 == other.0
-    }
+    ghost same_code = { Prim.search rules };
 
     fn hash(&self) -> u32 {
         self.0
@@ -24,22 +18,18 @@ impl Key for Number {
 }
 
 // A number with a label that equality ignores.
-#[derive(Clone, Copy)]
+#[derive(Clone, Copy, Debug)]
+#[derive_where(PartialEq, Eq)]
 pub struct Labelled {
     pub number: u32,
+    #[derive_where(skip(EqHashOrd))]
     pub label: char,
 }
 
 impl Key for Labelled {
-    ghost same = { λ x y. (x.number == y.number) };
-
     ghost code = { λ x. x.number % 8 };
 
-    ghost laws = { laws_by (λ x. x.number) (λ n. n % 8) };
-
-    fn equals(&self, other: &Labelled) -> bool {
-        self.number == other.number
-    }
+    ghost same_code = { Prim.search rules };
 
     fn hash(&self) -> u32 {
         self.number % 8
@@ -47,19 +37,13 @@ impl Key for Labelled {
 }
 
 // A number that has the hash of every other.
-#[derive(Clone, Copy)]
+#[derive(Clone, Copy, Debug, PartialEq, Eq)]
 pub struct Clashing(pub u32);
 
 impl Key for Clashing {
-    ghost same = { λ x y. (x.0 == y.0) };
-
     ghost code = { λ _. 7 };
 
-    ghost laws = { laws_by (λ x. x.0) (λ _. 7) };
-
-    fn equals(&self, other: &Clashing) -> bool {
-        self.0 == other.0
-    }
+    ghost same_code = { Prim.search rules };
 
     fn hash(&self) -> u32 {
         7

@@ -1,12 +1,14 @@
-ghost use Rattle.std.specs.Prelude.{◌≡◌, true, false, [], length, Some, Decides, MatchOption, ◌==◌, ◌&&◌, nat_eq};
-ghost use Rattle.std.specs.Cmp.Lexicographic.{pointwise};
+ghost use Rattle.std.specs.Prelude.{◌≡◌, true, false, [], length, Some, MatchResult, ◌==◌, codes};
 ghost use Rattle.model.specs.Names.{every, is_letter, is_name, is_word_byte};
 ghost use Rattle.model.specs.Spelling.{spelling};
-ghost use Rattle.std.specs.Cmp.Rules.{comparing};
-ghost use Rattle.std.proofs.Common.{rules};
 
 use super::{MAX_LENGTH, Name};
+use std::error::Error;
 use std::fmt;
+
+/// A word that is no name.
+#[derive(Clone, Copy, Debug, PartialEq, Eq)]
+pub struct NotAName;
 
 impl Name {
     /// The empty name, which no sheet can write.
@@ -17,23 +19,6 @@ impl Name {
             bytes: [0; MAX_LENGTH],
             len: 0,
         }
-    }
-
-    /// The name that is written as `word`, if that is a name.
-    pub fn new(word: &[u8]) -> Option<Name>
-        ensures { MatchOption result (is_name word.now ≡ false) (λ n. (is_name word.now ≡ true) × (spelling n ≡ word.now)) }
-    {
-        if !is_name(word) {
-            return None;
-        }
-        let mut bytes = [0; MAX_LENGTH];
-        for (i, b) in word.iter().enumerate() {
-            bytes[i] = *b;
-        }
-        Some(Name {
-            bytes,
-            len: word.len(),
-        })
     }
 
     /// Whether it is the empty name.
@@ -51,15 +36,22 @@ impl Name {
     }
 }
 
-impl PartialEq for Name {
-    ghost eq = { λ x y. (x.len == y.len) && pointwise nat_eq x.bytes y.bytes };
+// The name that is written as the word, if that is a name.
+impl<'a> TryFrom<&'a [u8]> for Name {
+    type Error = NotAName;
 
-    ghost laws = { Prim.search (comparing, rules) };
+    ghost try_from_gives = { λ word r. MatchResult r (λ n. (is_name word.now ≡ true) × (spelling n ≡ word.now)) (λ _. is_name word.now ≡ false) };
 
-    fn eq(&self, other: &Name) -> bool
-        ensures { Decides result ((self.now.len ≡ other.now.len) × (self.now.bytes ≡ other.now.bytes)) }
-    {
-        self.len == other.len && self.bytes == other.bytes
+    fn try_from(word: &'a [u8]) -> Result<Name, NotAName> {
+        if !is_name(word) {
+            return Err(NotAName);
+        }
+        let mut bytes = [0; MAX_LENGTH];
+        bytes[..word.len()].copy_from_slice(word);
+        Ok(Name {
+            bytes,
+            len: word.len(),
+        })
     }
 }
 
@@ -73,6 +65,16 @@ impl fmt::Display for Name {
         Ok(())
     }
 }
+
+impl fmt::Display for NotAName {
+    ghost output = { λ _. Some (codes "no name") };
+
+    fn fmt<W: fmt::Write>(&self, f: &mut fmt::Formatter<W>) -> fmt::Result {
+        f.write_str("no name")
+    }
+}
+
+impl Error for NotAName {}
 
 fn is_letter(b: u8) -> bool
     ensures { result ≡ is_letter b }
@@ -90,19 +92,11 @@ pub fn is_word_byte(b: u8) -> bool
 fn all_word_bytes(word: &[u8]) -> bool
     ensures { result ≡ every is_word_byte word.now }
 {
-    for b in word {
-        if !is_word_byte(*b) {
-            return false;
-        }
-    }
-    true
+    word.iter().all(|b| is_word_byte(*b))
 }
 
 fn is_name(word: &[u8]) -> bool
     ensures { result ≡ is_name word.now }
 {
-    if word.is_empty() || word.len() > MAX_LENGTH {
-        return false;
-    }
-    is_letter(word[0]) && all_word_bytes(word)
+    word.first().is_some_and(|b| is_letter(*b)) && all_word_bytes(word) && word.len() <= MAX_LENGTH
 }

@@ -3,16 +3,9 @@ ghost use Rattle.sheets.specs.Drafts.{gates_of, outputs_of, Others, SameLists, T
 
 use super::Draft;
 use crate::counts::Counts;
+use crate::symbol::Symbol;
 use model::{Gate, Output};
-
-// Puts one value everywhere.
-pub(crate) fn fill<T: Copy>(list: &mut [T], value: T)
-    ensures { list.new ≡ replicate (length list.old) value }
-{
-    for place in list.iter_mut() {
-        *place = value;
-    }
-}
+use table::Table;
 
 // Writes one value, if the list has that place.
 fn put<T: Copy>(list: &mut [T], place: usize, value: T)
@@ -23,11 +16,17 @@ fn put<T: Copy>(list: &mut [T], place: usize, value: T)
     }
 }
 
-impl<'a> Draft<'a> {
+impl<'a, 'b> Draft<'a, 'b> {
     // Nothing is read yet: the lists are emptied, whatever they held.
-    pub(crate) fn new(facts: usize, gates: &'a mut [Gate], outputs: &'a mut [Output]) -> Draft<'a>
+    pub(crate) fn new(
+        facts: usize,
+        names: &'a mut Table<'b, Symbol>,
+        gates: &'a mut [Gate],
+        outputs: &'a mut [Output],
+    ) -> Draft<'a, 'b>
         requires { facts ≤ 40 }
         ensures tidy { Tidy result }
+        ensures names { result.names.now ≡ names.old }
         ensures gates { gates_of result ≡ [] }
         ensures outputs { outputs_of result ≡ [] }
         ensures facts { result.facts ≡ facts }
@@ -35,9 +34,10 @@ impl<'a> Draft<'a> {
         ensures lent_gates { result.gates.ghost_name ≡ gates.entry.ghost_name }
         ensures lent_outputs { result.outputs.ghost_name ≡ outputs.entry.ghost_name }
     {
-        fill(gates, Gate::empty());
-        fill(outputs, Output::empty());
+        gates.fill(Gate::empty());
+        outputs.fill(Output::empty());
         Draft {
+            names,
             gates,
             outputs,
             facts,

@@ -1,18 +1,15 @@
 ghost use Rattle.std.specs.Prelude.{◌≡◌, ◌<◌, length};
 ghost use Rattle.std.specs.List.{slice_get};
-ghost use Rattle.table.specs.Cells.{keys_in};
-ghost use Rattle.table.specs.Filled.{chain, home, Filled};
+ghost use Rattle.table.specs.Filled.{home};
 ghost use Rattle.table.specs.Keys.{Finds};
-ghost use Rattle.table.specs.Tables.{capacity_of, keys_of, Sound};
+ghost use Rattle.table.specs.Tables.{capacity_of, keys_of};
 
 use super::Table;
-use crate::cell::{Cell, cell_at};
 use crate::key::Key;
 
 impl<K: Key> Table<'_, K> {
     /// How many keys are held.
     pub fn len(&self) -> usize
-        requires sound { Sound K.Key.same K.Key.code self.now }
         ensures { result ≡ length (keys_of self.now) }
     {
         self.len
@@ -27,26 +24,32 @@ impl<K: Key> Table<'_, K> {
 
     /// The key with a number.
     pub fn key_at(&self, number: usize) -> Option<K>
-        requires sound { Sound K.Key.same K.Key.code self.now }
         ensures { result ≡ slice_get (keys_of self.now) number }
     {
         if number >= self.len {
             return None;
         }
-        cell_at(self.cells, number).key
+        self.cells[number].key
     }
 
     /// The number of the key that is equal to this one.
     pub fn find(&self, key: &K) -> Option<usize>
-        requires sound { Sound K.Key.same K.Key.code self.now }
-        ensures { Finds K.Key.same (keys_of self.now) key.now result }
+        ensures { Finds K.eq (keys_of self.now) key.now result }
     {
         if self.cells.is_empty() {
             return None;
         }
-        let home = self.home(key);
-        let first = cell_at(self.cells, home).first;
-        follow(self.cells, first, key)
+        let cells = &*self.cells;
+        // a chain of cells, of which each says where the next is
+        let mut at = cells[self.home(key)].first;
+        while let Some(number) = at {
+            let cell = &cells[number];
+            if cell.holds(key) {
+                return Some(number);
+            }
+            at = cell.next;
+        }
+        None
     }
 
     // The cell on which a key's hash falls.
@@ -57,21 +60,4 @@ impl<K: Key> Table<'_, K> {
     {
         key.hash() as usize % self.cells.len()
     }
-}
-
-// Follows the chain of a key from its front to a key that is equal.
-fn follow<K: Key>(cells: &[Cell<K>], first: Option<usize>, key: &K) -> Option<usize>
-    requires filled { Filled K.Key.code cells.now }
-    requires chain { first ≡ chain K.Key.code cells.now key.now }
-    ensures { Finds K.Key.same (keys_in cells.now) key.now result }
-{
-    let mut at = first;
-    while let Some(number) = at {
-        let cell = cell_at(cells, number);
-        if cell.holds(key) {
-            return Some(number);
-        }
-        at = cell.next;
-    }
-    None
 }

@@ -1,21 +1,20 @@
-use Rattle.std.proofs.Common.{◌≡◌, length, Result}
+use Rattle.std.proofs.Common.{◌≡◌, Result}
 use Rattle.model.specs.declared.fault.Fault.{Fault}
-use Rattle.sheets.specs.Cursors.{following}
+use Rattle.sheets.specs.Cursors.{to_come}
 use Rattle.sheets.specs.Drafts.{room_in, rules_of, SameLists, Tidy}
-use Rattle.sheets.specs.Lines.{speaking}
 use Rattle.sheets.specs.RuleSheets.{Rules, RuleStep}
 use Rattle.sheets.specs.Sheets.{Reads}
-use Rattle.sheets.specs.Symbols.{SoundTable}
 use Rattle.sheets.proofs.rule_sheet.read_lines.Given as goal
 
--- names and draft are sound, and the verdict on what is left is that on the whole
-abbrev pub invariant-loop-cursor : goal.invariant-loop-cursor
-invariant-loop-cursor l =
-    SoundTable l.names × Tidy l.draft × (room_in l.names l.draft ≡ room_in l.initial.names l.initial.draft) × (l.draft.facts ≡ l.initial.draft.facts) × SameLists l.initial.draft l.draft
-    × ((r : Result Rules Fault) → Reads (RuleStep l.notation l.initial.draft.facts (room_in l.initial.names l.initial.draft)) (rules_of l.names l.draft) (speaking (following l.cursor)) r
-    → Reads (RuleStep l.notation l.initial.draft.facts (room_in l.initial.names l.initial.draft)) (rules_of l.initial.names l.initial.draft) (speaking (following l.initial.cursor)) r)
-    × (l.cursor.text.now ≡ l.initial.cursor.text.now)
-
--- how many lines are left
-abbrev pub decreases-loop-cursor : goal.decreases-loop-cursor
-decreases-loop-cursor l = length (speaking (following l.cursor))
+-- the draft is tidy, and the verdict on the lines that are left is that on all of them
+abbrev pub invariant-loop-line : goal.invariant-loop-line
+invariant-loop-line l = record {
+  can_next : (goal.iterator-loop-line).can_next l.line-iterator;
+  ends : (goal.iterator-loop-line).is_finite l.line-iterator;
+  tidy : Tidy l.draft;
+  room : room_in l.draft ≡ room_in l.fn.draft;
+  facts : l.draft.facts ≡ l.fn.draft.facts;
+  lists : SameLists l.fn.draft l.draft;
+  verdict : (r : Result Rules Fault) → Reads (RuleStep l.notation l.fn.draft.facts (room_in l.fn.draft)) (rules_of l.draft) (to_come l.line-iterator) r
+      → Reads (RuleStep l.notation l.fn.draft.facts (room_in l.fn.draft)) (rules_of l.fn.draft) (to_come l.fn.lines) r;
+}

@@ -1,4 +1,4 @@
-use Rattle.std.proofs.Common.{◌≡◌, ℕ, List, replicate, sym, ◌∙◌}
+use Rattle.std.proofs.Common.{rules, ◌≡◌, ℕ, List, replicate, sym, ◌∙◌}
 use Rattle.sheets.proofs.FormulaLaws.{formula_laws}
 use Rattle.sheets.proofs.RuleLines.{left_empty, left_filled}
 use Rattle.sheets.proofs.RuleVerdicts.{rule_laws}
@@ -15,12 +15,12 @@ returns-then-is_err c =
     let kept = c.read_lists-outcome.auto in
     let said =
     left_empty _ _ _ _ _ _ _ (sym c.if-is_err.ensures.value) _ _
-    (filled c.fill-then-is_err.ensures kept.gates c.empty-then-is_err.ensures)
-    (filled c.fill-then-is_err-2.ensures kept.outputs c.empty-then-is_err-2.ensures.whole) c.read_lists-outcome.ensures
+    (filled (c.fill-then-is_err.ensures.after (λ y e. search rules)) kept.gates c.empty-then-is_err.ensures)
+    (filled (c.fill-then-is_err-2.ensures.after (λ y e. search rules)) kept.outputs c.empty-then-is_err-2.ensures.whole) c.read_lists-outcome.ensures
     in
     record {
       read = said;
-      names = filled c.fill.ensures kept.names c.empty.ensures;
+      names = filled (c.fill.ensures.after (λ y e. search rules)) kept.names c.empty.ensures;
       written = rules_back _ _ _ _ _ _ _ c.args.order.now.named said;
       meaning = read_meaning _ _ _ _ _ _ _ said;
       laws = rule_laws;
@@ -32,7 +32,7 @@ returns-else-is_err c =
     let said = left_filled _ _ _ _ _ _ _ (sym c.if-is_err.ensures.value) c.read_lists-outcome.ensures in
     record {
       read = said;
-      names = filled c.fill.ensures c.read_lists-outcome.auto.names c.empty.ensures;
+      names = filled (c.fill.ensures.after (λ y e. search rules)) c.read_lists-outcome.auto.names c.empty.ensures;
       written = rules_back _ _ _ _ _ _ _ c.args.order.now.named said;
       meaning = read_meaning _ _ _ _ _ _ _ said;
       laws = rule_laws;

@@ -7,7 +7,6 @@ returns c =
     let said = c.find_or_add.ensures in
     let names = c.args.names.now in
     record {
-      sound = said.sound;
-      keys = adds_fresh (capacity_of names) (keys_of names) (keys_of c.find_or_add.new.self) c.args.symbol c.find_or_add.result c.requires.sound.apart c.requires.fresh c.requires.room said.keys;
-      capacity = said.capacity;
+      keys = adds_fresh (capacity_of names) (keys_of names) (keys_of c.find_or_add.new.self) c.args.symbol c.find_or_add.result names.apart c.requires.fresh c.requires.room said.keys;
+      capacity = said.memory.capacity;
     }

@@ -6,15 +6,11 @@ use Rattle.storage_cases.proofs.generic.recall_or_add.Goals as goal
 pub returns-in_err-find_or_add : goal.returns-in_err-find_or_add
 returns-in_err-find_or_add g c =
     let p = err_from_is_err_and c.from_residual.result c.from_residual.ensures.1 in
-    let said = c.in_err-find_or_add.ensures in
-    record { store = said.sound; memo = c.requires.memo; root = rw (p.1, p.2) (refused_full _ _ c.args.node c.in_err-find_or_add.field-0.0 _ said.nodes) }
+    rw (p.1, p.2) (refused_full _ _ c.args.node c.in_err-find_or_add.field-0.0 _ c.in_err-find_or_add.ensures.nodes)
 
 pub overflow_cast-root : goal.overflow_cast-root
 overflow_cast-root g c =
-    let so = g.S.Store.stored c.args.store.now c.requires.store in
-    omega (arith, placed_small _ _ c.args.node c.in_ok-find_or_add.field-0 _ so c.in_ok-find_or_add.ensures.nodes)
+    omega (arith, placed_small _ _ c.args.node c.in_ok-find_or_add.field-0 _ (g.met.S.Store.stored c.args.store.now) c.in_ok-find_or_add.ensures.nodes)
 
 pub returns : goal.returns
-returns g c =
-    let said = c.in_ok-find_or_add.ensures in
-    record { store = said.sound; memo = c.keep.ensures.sound; root = inr (c.in_ok-find_or_add.field-0, refl, placed_at _ _ c.args.node c.in_ok-find_or_add.field-0 _ said.nodes) }
+returns g c = inr (c.in_ok-find_or_add.field-0, refl, placed_at _ _ c.args.node c.in_ok-find_or_add.field-0 _ c.in_ok-find_or_add.ensures.nodes)

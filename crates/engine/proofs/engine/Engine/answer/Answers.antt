@@ -1,11 +1,11 @@
-use Rattle.std.proofs.Common.{ℕ, Ok, Err, sym, ap, ◌∙◌}
-use mathlib.Core.Path.{subst₃}
+use Rattle.std.proofs.Common.{ℕ, Ok, sym, ap, ◌∙◌, subst₂}
+use Rattle.engine.specs.Outcomes.{Comes}
 use Rattle.std.proofs.lemmas.Result.{err_from_is_err_and}
-use Rattle.model.specs.Refusals.{fault}
-use Rattle.model.specs.declared.fault.Refusal.TheVariants.{StoreFull}
 use Rattle.kfdd.specs.Joining.{Outcome}
 use Rattle.engine.specs.Frames.{open_frames}
 use Rattle.engine.specs.Questions.{outcome, types_of}
+use Rattle.engine.specs.Runs.{asks}
+use Rattle.engine.proofs.Newest.{none_left}
 use Rattle.engine.proofs.Running.{comes_grown, comes_held, outcome_grown}
 use Rattle.engine.proofs.Working.{Working, began, ended, resumed, stopped}
 use Rattle.engine.proofs.engine.Engine.answer.Goals as goal
@@ -21,14 +21,13 @@ loop-turn-preserved-in-Ask g c =
     let said = c.begin-turn.ensures in
     let fs' = open_frames self'.frames in
     let turn' = c.begin-turn.result in
-    let w = began R start q (types_of self.order) (g.S.Store.capacity self.store) (g.S.Store.sound self.store) (g.M.Memo.sound self.memo) (g.S.Store.nodes self.store) (g.M.Memo.answers self.memo)
-    (open_frames self.frames) c.loop-turn.turn inv.0 c.in-Ask.part c.in-Ask.is fs' turn' said.turns in (
-      subst₃ (λ o s m. Working R (types_of o) (g.S.Store.capacity s) (g.S.Store.sound s) (g.M.Memo.sound m) (g.S.Store.nodes s) (g.M.Memo.answers m) fs' turn' start q)
-          (sym said.order) (sym said.store) (sym said.memo) w,
-      said.order ∙ inv.1,
-      ap g.S.Store.capacity said.store ∙ inv.2,
-      ap g.S.Store.lent said.store ∙ inv.3,
-      ap g.M.Memo.lent said.memo ∙ inv.4,
+    let w = began R start q (types_of self.order) (g.S.Store.capacity self.store) (g.S.Store.nodes self.store) (open_frames self.frames) c.loop-turn.turn inv.0 c.in-Ask.part c.in-Ask.is fs' turn' said.turns in (
+      subst₂ (λ o s. Working R (types_of o) (g.S.Store.capacity s) (g.S.Store.nodes s) fs' turn' start q) (sym said.order) (sym said.store) w,
+      record {
+        order = said.order ∙ inv.1.order;
+        store = rw said.store inv.1.store;
+        memo = ap g.M.Memo.lent said.memo ∙ inv.1.memo;
+      },
     )
 
 pub loop-turn-preserved : goal.loop-turn-preserved
@@ -40,11 +39,9 @@ loop-turn-preserved g c =
     let self' = c.resume.new.self in
     let inv = c.loop-turn.invariant in
     let said = c.in_ok-turn-in-Answer.ensures in
-    let w = resumed R start q (types_of self.order) (g.S.Store.capacity self.store) (g.S.Store.sound self.store) (g.M.Memo.sound self.memo) (g.S.Store.nodes self.store) (g.M.Memo.answers self.memo)
-    (open_frames self.frames) c.loop-turn.turn inv.0 c.in-Answer.root c.in-Answer.is
-    (types_of self'.order) (ap types_of said.order) (g.S.Store.capacity self'.store) said.capacity (g.S.Store.sound self'.store) (g.M.Memo.sound self'.memo)
-    (g.S.Store.nodes self'.store) (g.M.Memo.answers self'.memo) (open_frames self'.frames) _ said.sound said.turns in
-    (w, said.order ∙ inv.1, said.capacity ∙ inv.2, said.store ∙ inv.3, said.memo ∙ inv.4)
+    let w = resumed R start q (types_of self.order) (g.S.Store.capacity self.store) (g.S.Store.nodes self.store) (open_frames self.frames) c.loop-turn.turn inv.0 c.in-Answer.root c.in-Answer.is
+    (types_of self'.order) (ap types_of said.stays.order) (g.S.Store.capacity self'.store) said.stays.store.capacity (g.S.Store.nodes self'.store) (open_frames self'.frames) _ said.turns in
+    (w, record { order = said.stays.order ∙ inv.1.order; store = record { capacity = said.stays.store.capacity ∙ inv.1.store.capacity; lent = said.stays.store.lent ∙ inv.1.store.lent }; memo = said.stays.memo ∙ inv.1.memo })
 
 pub returns-then-is_empty : goal.returns-then-is_empty
 returns-then-is_empty g c =
@@ -54,20 +51,16 @@ returns-then-is_empty g c =
     let start = g.S.Store.nodes entry.store in
     let self = c.loop-turn.self in
     let inv = c.loop-turn.invariant in
-    let came = ended R start c.args.question (types_of self.order) (g.S.Store.capacity self.store) (g.S.Store.sound self.store) (g.M.Memo.sound self.memo) (g.S.Store.nodes self.store) (g.M.Memo.answers self.memo)
-    (open_frames self.frames) c.loop-turn.turn inv.0 c.in-Answer.root c.in-Answer.is (types_of entry.order) (ap types_of inv.1) (g.S.Store.capacity entry.store) inv.2
-    (sym c.if-is_empty.ensures) in
-    let grows = outcome_grown R laws.closed laws.laws (types_of entry.order) start c.requires.sound.reduced c.args.question c.requires.held in
+    let came = ended R start c.args.question (types_of self.order) (g.S.Store.capacity self.store) (g.S.Store.nodes self.store) (open_frames self.frames) c.loop-turn.turn inv.0 c.in-Answer.root c.in-Answer.is
+    (types_of entry.order) (ap types_of inv.1.order) (g.S.Store.capacity entry.store) inv.1.store.capacity (none_left self.frames.items c.if-is_empty.ensures) in
+    let grows = outcome_grown R laws.closed laws.laws (types_of entry.order) start entry.reduced c.args.question c.requires.held in
     let ask : ℕ → Outcome = λ n. outcome R (types_of entry.order) n start c.args.question in
     record {
-      sound = inv.0.sound;
       comes = came;
+      does = asks c.requires.held came;
       held = comes_held ask (g.S.Store.capacity entry.store) start R grows (Ok c.in-Answer.root) (g.S.Store.nodes self.store) came;
       grown = comes_grown ask (g.S.Store.capacity entry.store) start R grows (Ok c.in-Answer.root) (g.S.Store.nodes self.store) came;
-      order = inv.1;
-      capacity = inv.2;
-      store = inv.3;
-      memo = inv.4;
+      stays = record { order = inv.1.order; store = inv.1.store; memo = inv.1.memo };
     }
 
 pub returns-in_err-turn-in-Answer : goal.returns-in_err-turn-in-Answer
@@ -81,17 +74,15 @@ returns-in_err-turn-in-Answer g c =
     let inv = c.loop-turn.invariant in
     let said = c.in_err-turn-in-Answer.ensures in
     let out = err_from_is_err_and c.from_residual.result c.from_residual.ensures.1 in
-    let came = stopped R start c.args.question (types_of self.order) (g.S.Store.capacity self.store) (g.S.Store.sound self.store) (g.M.Memo.sound self.memo) (g.S.Store.nodes self.store) (g.M.Memo.answers self.memo)
-    (open_frames self.frames) c.loop-turn.turn inv.0 c.in-Answer.root c.in-Answer.is (types_of entry.order) (ap types_of inv.1) (g.S.Store.capacity entry.store) inv.2
-    laws.closed laws.laws c.requires.sound.reduced c.requires.held (g.S.Store.nodes self'.store) said.turns.1 in
-    let grows = outcome_grown R laws.closed laws.laws (types_of entry.order) start c.requires.sound.reduced c.args.question c.requires.held in
+    let stops = stopped R start c.args.question (types_of self.order) (g.S.Store.capacity self.store) (g.S.Store.nodes self.store) (open_frames self.frames) c.loop-turn.turn inv.0 c.in-Answer.root c.in-Answer.is
+    (types_of entry.order) (ap types_of inv.1.order) (g.S.Store.capacity entry.store) inv.1.store.capacity
+    laws.closed laws.laws entry.reduced c.requires.held (g.S.Store.nodes self'.store) said.turns.1 in
+    let came : Comes (λ n. outcome R (types_of entry.order) n start c.args.question) (g.S.Store.capacity entry.store) start c.from_residual.result (g.S.Store.nodes self'.store) = rw (out.1, out.2, said.turns.0) stops in
+    let grows = outcome_grown R laws.closed laws.laws (types_of entry.order) start entry.reduced c.args.question c.requires.held in
     record {
-      sound = said.sound;
-      comes = rw (out.1, out.2, said.turns.0) came;
+      comes = came;
+      does = asks c.requires.held came;
       held = rw out.1 tt;
-      grown = comes_grown (λ n. outcome R (types_of entry.order) n start c.args.question) (g.S.Store.capacity entry.store) start R grows (Err (fault StoreFull 0)) (g.S.Store.nodes self'.store) came;
-      order = said.order ∙ inv.1;
-      capacity = said.capacity ∙ inv.2;
-      store = said.store ∙ inv.3;
-      memo = said.memo ∙ inv.4;
+      grown = comes_grown (λ n. outcome R (types_of entry.order) n start c.args.question) (g.S.Store.capacity entry.store) start R grows c.from_residual.result (g.S.Store.nodes self'.store) came;
+      stays = record { order = said.stays.order ∙ inv.1.order; store = record { capacity = said.stays.store.capacity ∙ inv.1.store.capacity; lent = said.stays.store.lent ∙ inv.1.store.lent }; memo = said.stays.memo ∙ inv.1.memo };
     }

@@ -1,4 +1,4 @@
-use Rattle.std.proofs.Common.{not, ◌||◌, ◌∷◌, refl, ap, ◌∙◌}
+use Rattle.std.proofs.Common.{not, ◌||◌, ◌∷◌, ap, ◌∙◌}
 use Rattle.std.proofs.lemmas.Result.{err_from_is_err_and}
 use Rattle.model.specs.Gates.{two_arguments}
 use Rattle.model.specs.Refusals.{fault}
@@ -6,9 +6,8 @@ use Rattle.model.specs.Spelling.{spelling}
 use Rattle.model.specs.declared.fault.Refusal.TheVariants.{NoForm}
 use Rattle.table.specs.Tables.{keys_of}
 use Rattle.sheets.specs.Sides.{Word}
-use Rattle.sheets.specs.Symbols.{known}
-use Rattle.sheets.proofs.Cursors.{same_then}
-use Rattle.sheets.proofs.Drafts.{others_then, lists_then}
+use Rattle.sheets.specs.Symbols.{known, signal_or_zero}
+use Rattle.sheets.proofs.Drafts.{same_lists, others_then, lists_then}
 use Rattle.sheets.proofs.GateSides.{noted_two}
 use Rattle.sheets.proofs.NextToken.{same_rest}
 use Rattle.sheets.proofs.cursor.Cursor.binary.Goals as goal
@@ -17,7 +16,7 @@ pub returns-in_err-first : goal.returns-in_err-first
 returns-in_err-first c =
     let said = c.in_err-first.ensures in
     let p = err_from_is_err_and c.from_residual.result c.from_residual.ensures.1 in
-    record { stays = said.stays; lent = record { gates = refl; outputs = refl }; gate = rw (p.1, p.2) (said.next.0, λ a b e. said.next.1 a.name _ (e, a.some)) }
+    record { stays = said.stays; lent = same_lists _; gate = rw (p.1, p.2) (said.next.0, λ a b e. said.next.1 a.name _ (e, a.some)) }
 
 pub returns-in_err-second : goal.returns-in_err-second
 returns-in_err-second c =
@@ -25,9 +24,9 @@ returns-in_err-second c =
     let said = c.in_err-second.ensures in
     let p = err_from_is_err_and c.from_residual-in_err-second.result c.from_residual-in_err-second.ensures.1 in
     record {
-      stays = same_then _ _ _ first.stays said.stays;
-      lent = record { gates = refl; outputs = refl };
-      gate = rw (p.1, p.2) (said.next.0 ∙ ap (fault NoForm) first.stays.line, λ a b e. said.next.1 b.name (same_rest _ _ _ first.next.0 e, b.some));
+      stays = said.stays ∙ first.stays;
+      lent = same_lists _;
+      gate = rw (p.1, p.2) (said.next.0 ∙ ap (fault NoForm) first.stays, λ a b e. said.next.1 b.name (same_rest _ _ _ first.next.0 e, b.some));
     }
 
 pub returns : goal.returns
@@ -41,18 +40,18 @@ returns c =
     let left = c.signal_of-left.ensures in
     let right = c.signal_of-right.ensures in
     let d = c.args.draft.now in
-    let keys = keys_of c.args.names.now in
+    let keys = keys_of c.args.draft.now.names.now in
     record {
-      stays = same_then _ _ _ one.stays two.stays;
+      stays = two.stays ∙ one.stays;
       lent = lists_then _ _ _ left.lent right.lent;
       gate = record {
         left = a;
         right = b;
         tokens = one.next.0 ∙ ap (λ ts. spelling n ∷ ts) two.next.0;
-        made = c.binary.ensures ∙ (λ i. two_arguments c.args.kind (left.signal i) (right.signal i));
+        made = c.binary.ensures ∙ (λ i. two_arguments c.args.kind (left.signal i) ((right.signal ∙ ap (λ t. signal_or_zero (keys_of t) (spelling m)) left.others.names) i));
         noted = record {
           unknown =
-              right.unknown ∙ ap (λ u. u || not (known keys (spelling m))) left.unknown
+              right.unknown ∙ (λ i. left.unknown i || not (known (keys_of (left.others.names i)) (spelling m)))
               ∙ noted_two d.unknown (known keys (spelling n)) (known keys (spelling m));
           gates = right.gates ∙ left.gates;
           count = right.count ∙ left.count;

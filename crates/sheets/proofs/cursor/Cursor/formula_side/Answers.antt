@@ -1,4 +1,4 @@
-use Rattle.std.proofs.Common.{◌++◌, ap, ◌∙◌, subst}
+use Rattle.std.proofs.Common.{arith, ◌++◌, ap, ◌∙◌, subst}
 use Rattle.std.proofs.lemmas.List.{append-nil}
 use Rattle.std.proofs.lemmas.Result.{err_from_is_err_and}
 use Rattle.model.specs.Refusals.{fault}
@@ -7,6 +7,7 @@ use Rattle.sheets.specs.Cursors.{ahead}
 use Rattle.sheets.specs.Formulas.{spell}
 use Rattle.sheets.specs.Tokens.{Next}
 use Rattle.sheets.proofs.FormulaSpelling.{no_line_end, no_whole}
+use Rattle.sheets.proofs.TokenCounts.{tokens_short}
 use Rattle.sheets.proofs.cursor.Cursor.formula_side.Goals as goal
 
 pub returns-in_err-signal : goal.returns-in_err-signal
@@ -43,7 +44,12 @@ returns-in_default c =
       stays = said.stays;
       lent = said.lent;
       side = (
-        c.refuse.ensures ∙ ap (fault NoForm) said.stays.line,
+        c.refuse.ensures ∙ ap (fault NoForm) said.stays,
         no_line_end (ahead c.args.self.now) read.formula read.after (ahead c.formula.new.self) c.in_ok-signal.token read.next said.read.1 c.in_default.not-LineEnd read.tokens,
       );
     }
+
+pub formula-requires : goal.formula-requires
+formula-requires c =
+    let few = tokens_short c.args.self.now.rest.now in
+    record { signals = omega (arith, few, c.args.self.now.short, c.requires.tidy.few_gates, c.args.draft.now.few_facts) }

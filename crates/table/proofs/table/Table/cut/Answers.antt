@@ -7,10 +7,10 @@ pub loop-self-preserved : goal.loop-self-preserved
 loop-self-preserved g c =
     let so = c.loop-self.invariant in
     let said = c.drop_last.ensures in
-    (said.sound, ap (take c.args.count) said.keys ∙ take-take c.args.count _ (keys_of c.loop-self.self) (omega arith) ∙ so.1, said.capacity ∙ so.2, said.lent ∙ so.3)
+    record {
+      keys = ap (take c.args.count) said.keys ∙ take-take c.args.count _ (keys_of c.loop-self.self) (omega arith) ∙ so.keys;
+      memory = record { capacity = said.memory.capacity ∙ so.memory.capacity; lent = said.memory.lent ∙ so.memory.lent };
+    }
 
-pub returns : goal.returns
-returns g c =
-    let so = c.loop-self.invariant in
-    let all = take_all c.args.count (keys_of c.loop-self.self) (omega (arith, so.0.count)) in
-    record { sound = so.0; keys = sym all ∙ so.1; capacity = so.2; lent = so.3 }
+pub returns-clause-keys : goal.returns-clause-keys
+returns-clause-keys g c = sym (take_all c.args.count (keys_of c.loop-self.self) (omega (arith, c.loop-self.self.count))) ∙ c.loop-self.invariant.keys
