@@ -46,12 +46,23 @@ def show(title, rows):
         print("  ", row)
 
 
+def head_of(text):
+    """The signature and the clauses of the function with which a text begins."""
+    lines = []
+    for line in text.splitlines():
+        lines.append(line)
+        clause = re.match(r"\s*(requires|ensures)\b", line)
+        if line.endswith(";") or (not clause and line.endswith(("{", "{}"))):
+            break
+    return "\n".join(lines)
+
+
 def functions():
     """Each function: its crate, file, name, parameters and clauses."""
     for file in FILES:
         text = file.read_text()
         for start in re.finditer(r"\bfn (\w+)", text):
-            head = re.split(r"\n\s*\{|;\n", text[start.start():], maxsplit=1)[0]
+            head = head_of(text[start.start():])
             inside = head[head.find("(") + 1:]
             params = re.findall(r"(?:^|[(,]\s*)(?:mut )?(\w+): ([^,)]+)", "(" + inside.split(") ->")[0].split("\n    requires")[0].split("\n    ensures")[0])
             clauses = re.findall(r"(?:requires|ensures)(?: \w+)? \{ (.*) \}", head)

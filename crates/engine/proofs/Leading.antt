@@ -8,6 +8,7 @@ use Rattle.kfdd.specs.Appending.{Extends}
 use Rattle.kfdd.specs.Joining.{Outcome, full, done}
 use Rattle.kfdd.specs.Reduced.{Reduced}
 use Rattle.kfdd.proofs.Appending.{extends_self, extends_trans}
+use Rattle.kfdd.proofs.Outcomes.{full_not_done}
 use Rattle.engine.specs.declared.frame.Frame.{Frame}
 use Rattle.engine.specs.Questions.{outcome, From}
 use Rattle.engine.specs.Stages.{left_of}
@@ -43,7 +44,7 @@ module _ (R : Ring) (closed : Closed R) (laws : Laws R) (types : List Decomposit
   -- what is left of a frame comes first
   through_frame : (f : Frame) (fs : List Frame) → Front fs → (ns : List Node) (r : Root) → Reduced R types ns → FramesFit R types ns (f ∷ fs) → From R types ns (suc f.fact) r
       → (o : Outcome) → left_of R types c f ns r ≡ o → LeadsTo R types c (done all m) fs o → Extends ns all
-  through_frame f fs front ns r red s h full p l = absurd (let never = leads_full R types c (done all m) fs l in let z : ◌≡◌ {A = ℕ} 0 1 = cc in omega arith)
+  through_frame f fs front ns r red s h full p l = absurd (full_not_done all m (sym (leads_full R types c (done all m) fs l)))
   through_frame f fs front ns r red s h (done ns₁ r₁) p l =
       let g = left_kept R closed laws types f.fact s.0.known f.stage ns red r s.0.roots h c ns₁ r₁ p in
       let later = front ns₁ r₁ g.reduced (frames_after R types ns ns₁ g.extends fs s.1) (from_earlier R types ns₁ f.fact (floor fs) r₁ s.0.rises g.root) l in

@@ -10,14 +10,14 @@ use Rattle.model.specs.declared.node.Node.{Node}
 use Rattle.model.specs.declared.root.Root.{Root}
 use Rattle.storage.specs.declared.question.Question.{Question}
 use Rattle.kfdd.specs.Appending.{Extends}
-use Rattle.kfdd.specs.Joining.{Outcome, full, done, fact_parts, fact_root}
+use Rattle.kfdd.specs.Joining.{Outcome, done, fact_parts, fact_root}
 use Rattle.kfdd.specs.Outcomes.{Kept}
 use Rattle.kfdd.specs.RecipeLaws.{Joinable}
 use Rattle.kfdd.specs.Reduced.{Held, Reduced}
 use Rattle.kfdd.proofs.Appending.{extends_self}
 use Rattle.kfdd.proofs.Cutting.{reduced_front, reduced_take}
 use Rattle.kfdd.proofs.Joined.{fact_answered}
-use Rattle.kfdd.proofs.Outcomes.{answered_repeats, done_kept}
+use Rattle.kfdd.proofs.Outcomes.{answered_repeats, done_kept, full_not_done}
 use Rattle.engine.specs.Outcomes.{Comes, answers, fills, Joins, joined, overfull}
 use Rattle.engine.specs.Questions.{outcome, RootsHeld}
 use Rattle.engine.specs.Runs.{Alike, Call, Does, asks, joins, cuts, Runs, ends, then, Step, answered, nodes_after}
@@ -31,13 +31,10 @@ module _ (ask : ℕ → Outcome) (capacity : ℕ) (before : List Node) where
   abbrev OneWay : Type 0
   OneWay = (c c' : ℕ) (ms ms' : List Node) (r r' : Root) → ask c ≡ done ms r → ask c' ≡ done ms' r' → (ms ≡ ms') × (r ≡ r')
 
-  done_or_full : (ms : List Node) (r : Root) → ask capacity ≡ done ms r → ask capacity ≡ full → ⊥
-  done_or_full ms r p q = let z : ◌≡◌ {A = ℕ} 0 1 = cc in omega arith
-
   pub comes_once : OneWay → (r s : Result Root Fault) (x y : List Node) → Comes ask capacity before r x → Comes ask capacity before s y → (r ≡ s) × (x ≡ y)
   comes_once one _ _ x y (answers {r = r} p) (answers {r = s} q) = let same = one capacity capacity x y r s p q in (ap Ok same.1, same.0)
-  comes_once one _ _ x y (answers {r = r} p) (fills q grown long enough all s came ext) = absurd (done_or_full x r p q)
-  comes_once one _ _ x y (fills p grown long enough all r came ext) (answers {r = s} q) = absurd (done_or_full y s q p)
+  comes_once one _ _ x y (answers {r = r} p) (fills q grown long enough all s came ext) = absurd (full_not_done x r (sym q ∙ p))
+  comes_once one _ _ x y (fills p grown long enough all r came ext) (answers {r = s} q) = absurd (full_not_done y s (sym p ∙ q))
   comes_once one _ _ x y (fills p grown long enough all r came ext) (fills q grown' long' enough' all' r' came' ext') =
       let same = one enough enough' all all' r r' came came' in
       (refl, same_front x y all' (subst (Extends x) same.0 ext) ext' (long ∙ sym long'))

@@ -1,5 +1,5 @@
 -- What is left of a frame only appends nodes, and answers a root of no earlier fact.
-use Rattle.std.proofs.Common.{◌≡◌, ℕ, suc, ◌<◌, List, length, refl, arith}
+use Rattle.std.proofs.Common.{◌≡◌, ℕ, suc, ◌<◌, List, length, refl}
 use Rattle.model.specs.Rings.{Ring, Closed, Laws}
 use Rattle.model.specs.declared.decomposition.Decomposition.{Decomposition}
 use Rattle.model.specs.declared.node.Node.{Node}
@@ -10,6 +10,7 @@ use Rattle.kfdd.specs.Appending.{Extends}
 use Rattle.kfdd.specs.Joining.{Outcome, full, done, then}
 use Rattle.kfdd.specs.Reduced.{Reduced}
 use Rattle.kfdd.proofs.Appending.{extends_trans}
+use Rattle.kfdd.proofs.Outcomes.{full_not_done}
 use Rattle.kfdd.proofs.RecipeLaws.{join_kept}
 use Rattle.engine.specs.declared.frame.Stage.{Stage}
 use Rattle.engine.specs.declared.frame.Stage.TheVariants.{Low, LowProduct, HighHigh, LowHigh, HighLow, FirstTwo, High}
@@ -44,7 +45,7 @@ module _ (R : Ring) (closed : Closed R) (laws : Laws R) (types : List Decomposit
   asks_on s keeps ns red q qs ss c ms m = by_outcome (outcome R types c ns q) refl
     where
       by_outcome : (o : Outcome) → outcome R types c ns q ≡ o → then o (left_at R types c f s) ≡ done ms m → Grown R types ns f ms m
-      by_outcome full p e = absurd (let z : ◌≡◌ {A = ℕ} 0 1 = cc in omega arith)
+      by_outcome full p e = absurd (full_not_done ms m e)
       by_outcome (done ns₁ r₁) p e =
           let g = outcome_kept R closed laws types ns red q (roots_held R types ns (suc f) q qs) c ns₁ r₁ p in
           let r = from_earlier R types ns₁ (top_of R types ns q) (suc f) r₁ (roots_top R types ns (suc f) q qs) g.root in

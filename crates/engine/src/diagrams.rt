@@ -31,6 +31,7 @@ impl<'a, A: Arithmetic, S: Store> Diagrams<'a, A, S> {
     }
 
     /// The low and the high of a root at a fact.
+    // A plain pair, as a rule of the project asks: both are answered together, and taken apart where they are used.
     pub fn split(&self, fact: usize, root: Root) -> (Root, Root)
         requires held { Held A.Arithmetic.ring (length (S.Store.nodes self.now.store.now)) root }
         ensures { result ≡ split_at A.Arithmetic.ring (types_of self.now.order.now) (S.Store.nodes self.now.store.now) fact root }

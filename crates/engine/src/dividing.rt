@@ -9,6 +9,8 @@ use arithmetic::Arithmetic;
 use model::Decomposition;
 use storage::{Question, Store};
 
+// `RootsHeld` stays a clause: it is a fact of a question and a store together. A question is a plain value, kept in memos
+// and frames while the store changes, so no type holds the two.
 impl<A: Arithmetic, S: Store> Diagrams<'_, A, S> {
     // Splits a question at the topmost fact of its roots: its frame, and the part that is asked first.
     pub(crate) fn divide(&self, question: Question) -> (Frame, Question)

@@ -35,6 +35,8 @@ pub(crate) struct Frame {
 }
 
 /// What a frame does with an answer.
+// Its own enum: a part to ask and the two roots of a node are of different kinds, and neither is a failure, an absence
+// or an end, so it has not the shape of Result, Option or ControlFlow.
 #[derive(Clone, Copy)]
 pub(crate) enum Next {
     /// It asks on.

@@ -10,6 +10,7 @@ use storage::Store;
 
 impl<A: Arithmetic, S: Store> Diagrams<'_, A, S> {
     // Whether a node of a fact would be worth its low.
+    // Two names, since a pair is no plainer: see `Engine::join`.
     pub(crate) fn drops(&self, fact: usize, low: Root, high: Root) -> bool
         ensures { result ≡ drops_node A.Arithmetic.ring (slice_index_or (types_of self.now.order.now) fact Shannon) low high }
     {

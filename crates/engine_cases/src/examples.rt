@@ -1,16 +1,10 @@
 use super::games::{Put, ask};
-use super::orders::order;
+use super::orders::{BLANK, order};
 use arithmetic::{Amounts, YesNo};
 use engine::Engine;
 use model::{Decomposition, Node, Refusal, Root};
 use std::test::Fail;
 use storage::{BlankMemo, PlainStore, Question, Store};
-
-const BLANK: Node = Node {
-    fact: 0,
-    low: Root::Inner(0),
-    high: Root::Inner(0),
-};
 
 #[test]
 fn product_of_two_facts(rt: HostRuntime) -> Result<(), Fail> {

@@ -123,6 +123,8 @@ fn with_node(digest: u64, node: Node) -> u64 {
     mixed(mixed(fact, code(node.low)), code(node.high))
 }
 
+// A root as one number. The stores keep theirs private, since it may change with their hash; the
+// tests have one of their own, so that what tells the runs apart is no part of what they try.
 fn code(root: Root) -> u64 {
     match root {
         Root::Inner(number) => number as u64 * 2,

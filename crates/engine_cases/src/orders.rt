@@ -1,6 +1,13 @@
-use model::{Decomposition, Fact, Name, Order};
+use model::{Decomposition, Fact, Name, Node, Order, Root};
 use std::process::Abort;
 use std::test::Fail;
+
+// What an unused place of a plain store holds.
+pub(crate) const BLANK: Node = Node {
+    fact: 0,
+    low: Root::Inner(0),
+    high: Root::Inner(0),
+};
 
 // An order of facts of these types, named a, b and so on.
 pub(crate) fn order(rt: &impl Abort, types: &[Decomposition]) -> Result<Order, Fail> {

@@ -11,7 +11,7 @@ use Rattle.model.specs.declared.root.Root.{Root}
 use Rattle.model.specs.declared.decomposition.Decomposition.{Decomposition}
 use Rattle.model.specs.declared.node.Node.{Node}
 
-full_not_done : (ns : List Node) (r : Root) → full ≡ done ns r → ⊥
+pub full_not_done : (ns : List Node) (r : Root) → full ≡ done ns r → ⊥
 full_not_done ns r e = let z : ◌≡◌ {A = ℕ} 0 1 = cc in omega arith
 
 module _ (R : Ring) (types : List Decomposition) (least : ℕ) (Q : Question) (ns : List Node) (l : ℕ) (w : (ℕ → Bool) → ℕ) (a : Answered R types least Q ns l w) (e : ℕ) (le : least ≤ e) where

@@ -1,5 +1,5 @@
--- The number and the layer of each refusal.
-use Rattle.std.specs.Prelude.{ℕ}
+-- The number and the layer of each refusal, and how a fault is shown.
+use Rattle.std.specs.Prelude.{ℕ, List, ◌∷◌, ◌++◌, decimal}
 use Rattle.model.specs.declared.fault.Fault.{Fault}
 use Rattle.model.specs.declared.fault.Layer.{Layer}
 use Rattle.model.specs.declared.fault.Layer.TheVariants.{Reading, Checking, Building, Asking}
@@ -59,3 +59,7 @@ layer_of ListTooShort = 4
 -- the refusal at a place
 abbrev pub fault : Refusal → ℕ → Fault
 fault refusal place = record { refusal = refusal; place = place }
+
+-- a fault as it is shown: the refusal's number, its layer and the place
+abbrev pub fault_text : Fault → List ℕ
+fault_text f = decimal (number_of f.refusal) ++ 32 ∷ (decimal (layer_of f.refusal) ++ 32 ∷ decimal f.place)

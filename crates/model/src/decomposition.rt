@@ -1,6 +1,7 @@
-ghost use Rattle.std.specs.Prelude.{◌≡◌, [], ◌∷◌, Some};
-ghost use Rattle.model.specs.Letters.{letter_of};
+ghost use Rattle.std.specs.Prelude.{◌≡◌, [], ◌∷◌, Some, codes};
+ghost use Rattle.model.specs.Letters.{letter_of, Lettered};
 
+use std::error::Error;
 use std::fmt;
 
 /// How a diagram branches at a fact. A sheet writes each type as a letter, and so does `{}`.
@@ -10,6 +11,10 @@ pub enum Decomposition {
     PositiveDavio,
     NegativeDavio,
 }
+
+/// A character that is no type's letter.
+#[derive(Clone, Copy, Debug, PartialEq, Eq)]
+pub struct UnknownLetter;
 
 impl From<Decomposition> for char {
     ghost from_gives = { λ decomposition letter. letter ≡ letter_of decomposition };
@@ -23,6 +28,21 @@ impl From<Decomposition> for char {
     }
 }
 
+impl TryFrom<char> for Decomposition {
+    type Error = UnknownLetter;
+
+    ghost try_from_gives = { Lettered };
+
+    fn try_from(letter: char) -> Result<Decomposition, UnknownLetter> {
+        match letter {
+            'S' => Ok(Decomposition::Shannon),
+            'P' => Ok(Decomposition::PositiveDavio),
+            'N' => Ok(Decomposition::NegativeDavio),
+            _ => Err(UnknownLetter),
+        }
+    }
+}
+
 impl fmt::Display for Decomposition {
     ghost output = { λ decomposition. Some (letter_of decomposition ∷ []) };
 
@@ -30,3 +50,13 @@ impl fmt::Display for Decomposition {
         f.write_char(char::from(*self))
     }
 }
+
+impl fmt::Display for UnknownLetter {
+    ghost output = { λ _. Some (codes "no letter of a type") };
+
+    fn fmt<W: fmt::Write>(&self, f: &mut fmt::Formatter<W>) -> fmt::Result {
+        f.write_str("no letter of a type")
+    }
+}
+
+impl Error for UnknownLetter {}

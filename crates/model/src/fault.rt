@@ -1,5 +1,8 @@
-ghost use Rattle.std.specs.Prelude.{◌≡◌};
-ghost use Rattle.model.specs.Refusals.{fault, layer_number, layer_of, number_of};
+ghost use Rattle.std.specs.Prelude.{◌≡◌, Some};
+ghost use Rattle.model.specs.Refusals.{fault, fault_text, layer_number, layer_of, number_of};
+
+use std::error::Error;
+use std::fmt;
 
 /// Why a call is turned down. A refusal is told by its number.
 #[derive(Clone, Copy, Debug, PartialEq, Eq)]
@@ -58,6 +61,7 @@ pub enum Layer {
 }
 
 /// A refusal with the place that it is about: a byte of the text, a gate, an output or a root, else 0.
+/// It is shown as the refusal's number, its layer and the place.
 #[derive(Clone, Copy, Debug, PartialEq, Eq)]
 pub struct Fault {
     pub refusal: Refusal,
@@ -80,7 +84,21 @@ impl From<Layer> for u8 {
     }
 }
 
+impl fmt::Display for Fault {
+    ghost output = { λ f. Some (fault_text f) };
+
+    fn fmt<W: fmt::Write>(&self, f: &mut fmt::Formatter<W>) -> fmt::Result {
+        let number = u8::from(self.refusal);
+        let layer = u8::from(self.refusal.layer());
+        let place = self.place;
+        write!(f, "{number} {layer} {place}")
+    }
+}
+
+impl Error for Fault {}
+
 impl Refusal {
+    // A method, since a refusal has a layer and is not converted to it.
     /// The layer that refuses.
     pub fn layer(self) -> Layer
         ensures { layer_number result ≡ layer_of self }

@@ -12,7 +12,7 @@ mod order;
 mod output;
 mod root;
 
-pub use decomposition::Decomposition;
+pub use decomposition::{Decomposition, UnknownLetter};
 pub use fact::Fact;
 pub use fault::{Fault, Layer, Refusal};
 pub use gate::{Gate, GateKind, UnknownKind};

@@ -11,7 +11,7 @@ const MAX_LENGTH: usize = 16;
 /// A name as a sheet has it, or the empty name. The bytes past its length are 0.
 #[derive(Clone, Copy, Debug, PartialEq, Eq)]
 pub struct Name {
-    // an array and a length, since a name is `Copy`, which an `ArrayVec` is not
+    // an array and a length: `Copy` is promised, which an `ArrayVec` is not; to take it away would ask more of callers
     bytes: [u8; MAX_LENGTH],
     len: usize,
     ghost whole: { length bytes ≡ 16 },

@@ -12,7 +12,7 @@ pub const MAX_FACTS: usize = 40;
 /// The facts of a sheet, topmost first: at most 40, each with a name of its own.
 #[derive(Clone, Copy)]
 pub struct Order {
-    // an array and a length, since an order is `Copy`, which an `ArrayVec` is not
+    // an array and a length: `Copy` is promised, which an `ArrayVec` is not; to take it away would ask more of callers
     facts: [Fact; MAX_FACTS],
     len: usize,
     ghost whole: { length facts ≡ 40 },

@@ -1,6 +1,8 @@
 ghost use Rattle.std.specs.Prelude.{◌≡◌};
 ghost use Rattle.model.specs.Roots.{case_number};
 
+// A node's number, and no reference to it, is what is promised: nodes lie in memory that is lent, and the number is an
+// index into it.
 /// Where an edge of a diagram leads: to a node, by its number, or to a leaf, which holds a value.
 #[derive(Clone, Copy, Debug, PartialEq, Eq)]
 pub enum Root {

@@ -13,6 +13,8 @@ use model::Order;
 use std::io::ErrorKind;
 use std::rt::Files;
 
+// The programs' runs show that both succeed: `gates` and `consignment` read both files, `facts` the order.
+
 /// Reads the order sheet `order.txt`.
 pub fn read_order_file(rt: &(impl Files + AllocGlobal)) -> Result<Order, Stop>
     ensures read { IfOk result (λ order. (text : List ℕ) × OrderSheet text (Ok (facts_of order))) }

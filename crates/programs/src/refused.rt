@@ -34,15 +34,14 @@ impl Refused {
     }
 }
 
+// `thiserror` would write this one, but what it writes has no contract.
 impl fmt::Display for Refused {
     ghost output = { λ r. Some (refused_text r) };
 
     fn fmt<W: fmt::Write>(&self, f: &mut fmt::Formatter<W>) -> fmt::Result {
         let file = self.file;
-        let number = u8::from(self.fault.refusal);
-        let layer = u8::from(self.fault.refusal.layer());
-        let place = self.fault.place;
-        write!(f, "{file} refused {number} {layer} {place}")
+        let fault = self.fault;
+        write!(f, "{file} refused {fault}")
     }
 }
 

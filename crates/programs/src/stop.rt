@@ -44,10 +44,10 @@ impl From<AllocError> for Stop {
 pub fn report<W: io::Write>(out: &mut W, outcome: Result<(), Stop>) -> io::Result<()>
     ensures { Ends (W.contents out.old) (W.contents out.new) outcome result }
 {
-    match outcome {
-        Ok(()) => Ok(()),
-        Err(Stop::Refused(refused)) => writeln!(out, "{refused}"),
-        Err(Stop::Io(error)) => Err(error),
+    let Err(stop) = outcome else { return Ok(()) };
+    match stop {
+        Stop::Refused(refused) => writeln!(out, "{refused}"),
+        Stop::Io(error) => Err(error),
     }
 }
 

@@ -167,11 +167,6 @@ fn gates(rt: HostRuntime) {
         Gate::empty(),
         Gate::empty(),
     ];
-    for (gate, wanted) in gates.iter().zip(expected.iter()) {
-        assert_eq!(rt;
-            (gate.kind, gate.number, gate.first, gate.second),
-            (wanted.kind, wanted.number, wanted.first, wanted.second)
-        );
-    }
+    assert_eq!(rt; gates, expected);
     assert_eq!(rt; (outputs[0].signal, outputs[1].signal), (8, 1));
 }

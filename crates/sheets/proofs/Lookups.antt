@@ -148,7 +148,3 @@ lists_any (o ∷ os) n = λ i. alike_bytes o.name n i || lists_any os n i
 -- a name that is known stands for the signal that was found
 pub found_zero : (ss : List Symbol) (word : List ℕ) (n : ℕ) → Some n ≡ signal_of ss word → (known ss word ≡ true) × (n ≡ signal_or_zero ss word)
 found_zero ss word n e = (ap is_some (sym e), ap (λ o. unwrap_or o 0) e)
-
-pub none_from : {X : Type 0} (o : Option X) → is_some o ≡ false → o ≡ None
-none_from None e = refl
-none_from (Some x) e = absurd (true≢false e)

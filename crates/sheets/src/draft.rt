@@ -26,7 +26,7 @@ pub(crate) struct Draft<'a, 'b> {
     // how many gates there are, also those that the list has no room for
     gate_count: usize,
     output_count: usize,
-    // whether a name was used that is not known
+    // whether a name was used that is not known: it is refused only when the line's form was judged, so reading goes on
     unknown: bool,
     ghost few_facts: { facts ≤ 40 },
     ghost outputs_fit: { output_count ≤ length outputs.now },

@@ -12,11 +12,13 @@ use crate::draft::Draft;
 use crate::token::Token;
 use model::{Fault, Gate, GateKind, Refusal};
 
-// The readers of formulas, one for each level, which joins by signs and gates of its own (a minus makes two); one
-// reader for all would have to be told the level, its signs and its gates at each call. Each puts the gates of what
-// it reads into the draft and answers the signal, and but for a factor also the token that comes after. They go deeper
-// with each bracket and each not that is read, and so no deeper than the line has of these. `signals` is a fact of a
-// draft and a line together, which the type of neither can say.
+// The readers of formulas, one for each level, which joins by signs and gates of its own (a minus makes two). One
+// reader for all would have to be told the level, its signs and its gates at each call.
+//
+// Each puts the gates of what it reads into the draft and answers the signal, and but for a factor also the token that
+// comes after. They go deeper with each bracket and each not that is read, and so no deeper than the line has of these.
+//
+// `signals` is a fact of a draft and a line together, which the type of neither can say.
 impl Cursor<'_> {
     // Parts joined by `|`.
     #[cycle(factor_formula_part_term)]

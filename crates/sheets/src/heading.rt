@@ -7,9 +7,6 @@ use model::{Fault, Refusal};
 // The most bytes that a sheet may have.
 const MAX_TEXT: usize = 65535;
 
-// Versions are 16-bit numbers.
-const MAX_VERSION: u32 = 65535;
-
 // The checks of the text as a whole.
 pub(crate) fn check_text(text: &[u8]) -> Result<(), Fault>
     ensures { MatchResult result (λ _. Plain text.now) (λ f. (mark : List ℕ) → Opens mark text.now (Err f)) }
@@ -31,15 +28,11 @@ fn first_bad(text: &[u8]) -> Option<usize>
 }
 
 // The version after the mark and a space, and nothing else.
-pub(crate) fn version(line: &[u8], mark: &[u8]) -> Option<u32>
+pub(crate) fn version(line: &[u8], mark: &[u8]) -> Option<u16>
     ensures { MatchOption result ((v : ℕ) → Heading mark.now line.now v → ⊥) (λ v. Heading mark.now line.now v) }
 {
     let digits = line.strip_prefix(mark)?.strip_prefix(b" ")?;
-    let version = number(digits)?;
-    if version > MAX_VERSION {
-        return None;
-    }
-    Some(version)
+    u16::try_from(number(digits)?).ok()
 }
 
 fn is_allowed(b: u8) -> bool

@@ -20,7 +20,7 @@ impl Notation {
         ensures mark { result ≡ marked_as text.now }
         ensures opens { (n : NotationOf) → Opens (mark_of n) text.now (Ok tt) → result ≡ n }
     {
-        if text.starts_with(b"FRM") {
+        if text.starts_with(Notation::Formulas.mark()) {
             Notation::Formulas
         } else {
             Notation::Gates

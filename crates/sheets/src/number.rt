@@ -24,6 +24,7 @@ pub(crate) fn number(word: &[u8]) -> Option<u32>
         return None;
     }
     let mut value = 0;
+    // a loop: the closure of a `try_fold` would only hand on to `with_digit`, and be no plainer than `?`
     for b in word {
         value = with_digit(value, *b)?;
     }

@@ -26,6 +26,7 @@ impl Cursor<'_> {
         ensures lent { SameLists draft.old draft.new }
         ensures side { MatchResult result (λ signal. ReadSide notation (keys_of draft.old.names.now) draft.old (ahead self.old) signal draft.new) (λ f. (f ≡ fault NoForm self.old.line) × ((s : Side notation) → ahead self.old ≢ side_tokens notation s)) }
     {
+        // a `match`: the sheet's first line decides, and the two kinds are closed
         match notation {
             Notation::Gates => self.gate_side(draft),
             Notation::Formulas => self.formula_side(draft),

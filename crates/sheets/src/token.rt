@@ -33,6 +33,8 @@ pub(crate) struct Equals;
 #[derive(Clone, Copy)]
 pub(crate) struct LineEnd;
 
+// No `TryFrom<Token>`: `token_of` goes from a value to its token, which `TryFrom` has no member for, and `take` needs both
+// ways in its contract.
 /// What the tokens of one kind hold.
 pub(crate) trait Held: Copy {
     ghost token_of: { Self → TokenOf };
@@ -101,9 +103,6 @@ pub(crate) fn single(c: char) -> Token
     ensures { result ≡ sign c }
 {
     match c {
-        'S' => Token::TypeLetter(Decomposition::Shannon),
-        'P' => Token::TypeLetter(Decomposition::PositiveDavio),
-        'N' => Token::TypeLetter(Decomposition::NegativeDavio),
         '=' => Token::Equals,
         '|' => Token::Or,
         '+' => Token::Plus,
@@ -112,6 +111,6 @@ pub(crate) fn single(c: char) -> Token
         '!' => Token::Not,
         '(' => Token::Open,
         ')' => Token::Close,
-        _ => Token::Other(c),
+        _ => Decomposition::try_from(c).map_or(Token::Other(c), Token::TypeLetter),
     }
 }

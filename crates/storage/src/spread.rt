@@ -4,8 +4,7 @@ ghost use Rattle.storage.specs.Hashes.{root_code, spread};
 use model::Root;
 
 // A root as one number: twice its own, and one more for a leaf. It takes a reference, since to copy
-// a root that was just written costs more than the hash. No `From`, which only the crate of `Root`
-// could give, and this number is the hash's alone.
+// a root that was just written costs more than the hash. No `From`: this number is the hash's alone.
 fn code(root: &Root) -> u64
     ensures value { result ≡ root_code root.now }
     ensures small { result < 2 ^ 33 }

@@ -10,7 +10,8 @@ use crate::key::Key;
 pub struct Cell<K> {
     // the key with this cell's number
     pub(crate) key: Option<K>,
-    // the latest key whose hash falls on this cell
+    // the latest key whose hash falls on this cell: here and in `next` a number and no `Box`, since the
+    // cells lie in lent memory
     pub(crate) first: Option<usize>,
     // the latest key before this cell's key whose hash falls on the same cell
     pub(crate) next: Option<usize>,

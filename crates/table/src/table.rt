@@ -15,6 +15,7 @@ mod reads;
 #[derive(Clone, Copy, Debug, PartialEq, Eq)]
 pub struct Full;
 
+// `thiserror` would write this one, but what it writes has no contract.
 impl fmt::Display for Full {
     ghost output = { λ _. Some (codes "the table is full") };
 

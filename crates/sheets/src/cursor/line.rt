@@ -23,10 +23,7 @@ impl<'a> Cursor<'a> {
     pub(crate) fn is_silent(&self) -> bool
         ensures { result ≡ says_nothing self.now.rest.now }
     {
-        match after_spaces(self.rest).first() {
-            Some(b) => *b == b'#',
-            None => true,
-        }
+        after_spaces(self.rest).first().is_none_or(|b| *b == b'#')
     }
 
     // Refuses a line with too many brackets and nots.

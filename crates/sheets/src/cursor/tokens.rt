@@ -61,10 +61,9 @@ impl Cursor<'_> {
         if let Ok(name) = Name::try_from(word) {
             return Ok(Token::Identifier(name));
         }
-        match number(word) {
-            Some(value) => Ok(Token::Number(value)),
-            None => Err(self.refuse(Refusal::NoForm)),
-        }
+        number(word)
+            .map(Token::Number)
+            .ok_or(self.refuse(Refusal::NoForm))
     }
 }
 

@@ -7,7 +7,7 @@ use crate::symbol::Symbol;
 use model::{Gate, Output};
 use table::Table;
 
-// Writes one value, if the list has that place.
+// Writes one value, if the list has that place. By index: after a slice's `get_mut` a proof knows its length alone.
 fn put<T: Copy>(list: &mut [T], place: usize, value: T)
     ensures { list.new ≡ slice_set list.old place value }
 {

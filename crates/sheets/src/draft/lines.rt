@@ -72,9 +72,7 @@ impl Draft<'_, '_> {
         ensures judged { Lists (keys_of self.old.names.now) self.old name self.new result }
         ensures lent { SameLists self.old self.new }
     {
-        let Some(signal) = self.look_up(name) else {
-            return Err(Refusal::UnknownName);
-        };
+        let signal = self.look_up(name).ok_or(Refusal::UnknownName)?;
         if self.lists(name) {
             return Err(Refusal::NamedTwice);
         }
@@ -82,6 +80,7 @@ impl Draft<'_, '_> {
         if place == self.outputs.len() {
             return Err(Refusal::SheetTooLarge);
         }
+        // by index, as in `put`
         self.outputs[place] = Output { name, signal };
         self.output_count = place + 1;
         Ok(())

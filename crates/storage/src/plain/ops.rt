@@ -19,7 +19,8 @@ impl<'a> PlainStore<'a> {
         PlainStore { cells, len: 0 }
     }
 
-    // The node in a cell.
+    // The node in a cell. Cells are read and written by these two functions alone, so that another form of the
+    // cells touches no other.
     fn read(&self, place: usize) -> Node
         requires { place < length self.now.cells.now }
         ensures { result ≡ slice_index_or self.now.cells.now place blank_node }
@@ -85,7 +86,7 @@ impl Store for PlainStore<'_> {
     }
 
     fn node(&self, place: usize) -> Option<Node> {
-        // no `then`: nothing is inferred of what its closure reads, so it would need clauses of its own
+        // `then(|| self.read(place))` was tried: left open is that the node it answers is the one in the cell
         if place < self.len {
             Some(self.read(place))
         } else {

@@ -72,7 +72,7 @@ impl<'a, K: Key> Table<'a, K> {
         ensures memory { KeepsCells self.old self.new }
     {
         // one key after the other, the last first: each is the front of its chain by then
-        while self.len > count {
+        for _ in count..self.len {
             self.drop_last();
         }
     }

@@ -26,10 +26,7 @@ impl<K: Key> Table<'_, K> {
     pub fn key_at(&self, number: usize) -> Option<K>
         ensures { result ≡ slice_get (keys_of self.now) number }
     {
-        if number >= self.len {
-            return None;
-        }
-        self.cells[number].key
+        self.cells.get(number)?.key
     }
 
     /// The number of the key that is equal to this one.
@@ -40,7 +37,8 @@ impl<K: Key> Table<'_, K> {
             return None;
         }
         let cells = &*self.cells;
-        // a chain of cells, of which each says where the next is
+        // `successors(first, |number| cells[*number].next).find(..)` was tried: left open is that it ends, which
+        // `find` asks for before its first step; here each number is below the one before, and that is the measure
         let mut at = cells[self.home(key)].first;
         while let Some(number) = at {
             let cell = &cells[number];

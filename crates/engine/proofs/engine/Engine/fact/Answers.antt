@@ -7,12 +7,9 @@ use Rattle.kfdd.specs.RecipeLaws.{Joinable}
 use Rattle.engine.specs.Outcomes.{Joins}
 use Rattle.engine.specs.Questions.{types_of}
 use Rattle.engine.specs.Runs.{joins}
-use Rattle.engine.proofs.Reading.{types_few, types_long}
+use Rattle.engine.proofs.Reading.{types_long}
 use Rattle.engine.proofs.Running.{comes_grown, comes_held, fact_comes, fact_grown, fact_joinable}
 use Rattle.engine.proofs.engine.Engine.fact.Goals as goal
-
-pub overflow_cast-fact : goal.overflow_cast-fact
-overflow_cast-fact g c = let order = c.args.self.now.order in omega (arith, c.requires.known, types_long order, types_few order)
 
 pub join-requires : goal.join-requires
 join-requires g c =

@@ -1,7 +1,5 @@
-use Rattle.std.proofs.Common.{◌+◌, set, sym, ap, ◌∙◌}
+use Rattle.std.proofs.Common.{◌+◌, set, ap, ◌∙◌}
 use Rattle.std.proofs.lemmas.Result.{err_from_is_err_and}
-use Rattle.model.specs.Refusals.{fault}
-use Rattle.model.specs.declared.fault.Refusal.TheVariants.{NoForm}
 use Rattle.sheets.proofs.Drafts.{same_lists, others_then, lists_then}
 use Rattle.sheets.proofs.GateSides.{no_word}
 use Rattle.sheets.proofs.cursor.Cursor.gate_side.Goals as goal
@@ -11,17 +9,6 @@ returns-in_err-kind c =
     let said = c.in_err-kind.ensures in
     let p = err_from_is_err_and c.from_residual.result c.from_residual.ensures.1 in
     record { stays = said.stays; lent = same_lists _; side = rw (p.1, p.2) (said.word.0, no_word _ said.word.1) }
-
-pub returns-in_err-gate : goal.returns-in_err-gate
-returns-in_err-gate c =
-    let first = c.in_ok-kind.ensures in
-    let said = c.in_err-gate.ensures in
-    let p = err_from_is_err_and c.from_residual-in_err-gate.result c.from_residual-in_err-gate.ensures.1 in
-    record {
-      stays = said.stays ∙ first.stays;
-      lent = said.lent;
-      side = rw (p.1, p.2) (said.gate.0 ∙ ap (fault NoForm) first.stays, λ s e. said.gate.1 s (sym first.word ∙ e));
-    }
 
 pub returns : goal.returns
 returns c =

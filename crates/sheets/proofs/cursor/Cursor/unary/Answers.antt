@@ -1,19 +1,11 @@
 use Rattle.std.proofs.Common.{ap, ◌∙◌}
-use Rattle.std.proofs.lemmas.Result.{err_from_is_err_and}
 use Rattle.model.specs.Gates.{one_argument}
 use Rattle.model.specs.Spelling.{spelling}
 use Rattle.table.specs.Tables.{keys_of}
 use Rattle.sheets.specs.Sides.{Word}
 use Rattle.sheets.specs.Symbols.{known}
 use Rattle.sheets.proofs.GateSides.{noted_one}
-use Rattle.sheets.proofs.Drafts.{same_lists}
 use Rattle.sheets.proofs.cursor.Cursor.unary.Goals as goal
-
-pub returns-in_err-argument : goal.returns-in_err-argument
-returns-in_err-argument c =
-    let said = c.in_err-argument.ensures in
-    let p = err_from_is_err_and c.from_residual.result c.from_residual.ensures.1 in
-    record { stays = said.stays; lent = same_lists _; gate = rw (p.1, p.2) (said.next.0, λ a e. said.next.1 a.name (e, a.some)) }
 
 pub returns : goal.returns
 returns c =

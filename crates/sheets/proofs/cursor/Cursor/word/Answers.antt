@@ -1,5 +1,12 @@
-use Rattle.std.proofs.Common.{ℕ, ◌<◌, List, ◌∷◌, length, sym, ap, ◌∙◌, subst}
-use Rattle.sheets.specs.Tokens.{tokens}
+use Rattle.std.proofs.Common.{◌≡◌, ℕ, ◌<◌, true, false, List, ◌∷◌, Some, None, Option, Result, MatchResult, MatchOption, of_calls, rules, length, sym, ap, ◌∙◌, subst}
+use Rattle.std.specs.Option.{ok_or, IsSomeAnd}
+use Rattle.model.specs.Names.{begins, is_name, is_word_byte}
+use Rattle.model.specs.Refusals.{fault}
+use Rattle.model.specs.declared.fault.Fault.{Fault}
+use Rattle.model.specs.declared.fault.Refusal.TheVariants.{NoForm}
+use Rattle.sheets.specs.Tokens.{tokens, Next, Stuck, Numbered}
+use Rattle.sheets.specs.declared.token.Token.{Token}
+use Rattle.sheets.specs.declared.token.Token.TheVariants.{Number}
 use Rattle.sheets.proofs.Words.{first_run, Run}
 use Rattle.sheets.proofs.cursor.Cursor.word.Goals as goal
 use Rattle.sheets.proofs.cursor.Cursor.word.Goals.{After-split_at}
@@ -14,13 +21,19 @@ returns-in-Ok-clause-next c =
     let L : List ℕ → Type 0 = λ w. 0 < length w in
     (run.next ∙ ap (λ w. w ∷ tokens c.split_at.result.1.now) (sym spelt), subst L (sym spelt) run.some)
 
-pub returns-in-Some-clause-next : goal.returns-in-Some-clause-next
-returns-in-Some-clause-next c =
-    let run = passed (goal.at.returns-in-Some-clause-next c).After-split_at in
-    let said = c.in-Some.ensures in
-    (run.next ∙ ap (λ w. w ∷ tokens c.split_at.result.1.now) said.1, said.0)
+-- a run that is no name is a number or refused
+numbered : (word : List ℕ) (ts after : List (List ℕ)) (line : ℕ) (r : Option ℕ) (o : Option Token) (f : Fault) (w : Result Token Fault) (P : ℕ → Token → Type 0)
+    → w ≡ ok_or o f → f ≡ fault NoForm line → MatchOption r (o ≡ None) (λ v. IsSomeAnd o (P v)) → ((v : ℕ) (t : Token) → P v t → t ≡ Number v)
+    → Numbered word r → ts ≡ word ∷ after → begins is_word_byte word ≡ true → is_name word ≡ false
+    → MatchResult w (λ t. Next ts t after) (λ e. (e ≡ fault NoForm line) × Stuck ts)
+numbered word ts after line None None f w P is at said gives read next begun other =
+    rw is (at, (word, after, next, record { run = begun; no_name = other; no_number = read }))
+numbered word ts after line None (Some t) f w P is at said gives read next begun other = absurd cc
+numbered word ts after line (Some v) None f w P is at said gives read next begun other = absurd said
+numbered word ts after line (Some v) (Some t) f w P is at said gives read next begun other =
+    rw (is, gives v t said) (next ∙ ap (λ x. x ∷ after) read.1, read.0)
 
-pub returns-in-None-clause-next : goal.returns-in-None-clause-next
-returns-in-None-clause-next c =
-    let run = passed (goal.at.returns-in-None-clause-next c).After-split_at in
-    (c.refuse.ensures, (_, _, run.next, record { run = run.begun; no_name = c.in_default.ensures; no_number = c.in-None.ensures }))
+pub returns-clause-next : goal.returns-clause-next
+returns-clause-next c =
+    let run = passed (goal.at.returns-clause-next c).After-split_at in
+    numbered _ _ _ _ c.number.result c.map.result c.refuse.result c.ok_or.result _ c.ok_or.ensures.value c.refuse.ensures c.map.ensures.cases (λ v t p. search (of_calls, rules)) c.number.ensures run.next run.begun c.in_default.ensures

@@ -2,15 +2,7 @@ use Rattle.std.proofs.Common.{is_some, sym, refl, ap, ◌∙◌}
 use Rattle.std.proofs.lemmas.Bool.Decides.{not_from_Decides}
 use Rattle.sheets.specs.Drafts.{unknown, repeated, too_large, defined}
 use Rattle.sheets.proofs.Drafts.{same_lists}
-use Rattle.sheets.proofs.Lookups.{none_from}
 use Rattle.sheets.proofs.draft.Draft.define.Goals as goal
-
-pub add-requires : goal.add-requires
-add-requires c =
-    record {
-      fresh = none_from _ (sym (ap is_some c.look_up.ensures) ∙ sym c.if-is_some.ensures);
-      room = (c.has_room.ensures.0 c.if-not-has_room.false).names;
-    }
 
 pub returns-then-self : goal.returns-then-self
 returns-then-self c = record { judged = unknown c.if-self.true; lent = same_lists _ }
