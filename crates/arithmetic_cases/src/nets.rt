@@ -2,7 +2,7 @@ use arithmetic::{Arithmetic, Net};
 use model::{Fault, Gate, Name, Output};
 
 // An output of a signal.
-pub fn output(signal: u32) -> Output {
+pub(super) fn output(signal: u32) -> Output {
     Output {
         name: Name::empty(),
         signal,
@@ -10,7 +10,7 @@ pub fn output(signal: u32) -> Output {
 }
 
 // What the checks of a net answer.
-pub fn checked<A: Arithmetic>(
+pub(super) fn checked<A: Arithmetic>(
     facts: usize,
     gates: &[Gate],
     outputs: &[Output],
@@ -24,7 +24,7 @@ pub fn checked<A: Arithmetic>(
 }
 
 // What working a net out answers.
-pub fn evaluated<A: Arithmetic>(
+pub(super) fn evaluated<A: Arithmetic>(
     facts: usize,
     gates: &[Gate],
     outputs: &[Output],
