@@ -76,19 +76,12 @@ impl<'a> TryFrom<&'a [u8]> for GateKind {
     }
 }
 
-// The word that a gate sheet writes.
+// A kind is shown as its word.
 impl fmt::Display for GateKind {
     ghost output = { λ kind. Some (word_of kind) };
 
     fn fmt<W: fmt::Write>(&self, f: &mut fmt::Formatter<W>) -> fmt::Result {
-        f.write_str(match self {
-            GateKind::Const => "const",
-            GateKind::Sum => "sum",
-            GateKind::Times => "times",
-            GateKind::Minus => "minus",
-            GateKind::Not => "not",
-            GateKind::Or => "or",
-        })
+        f.write_str(self.word())
     }
 }
 
@@ -103,6 +96,20 @@ impl fmt::Display for UnknownKind {
 impl Error for UnknownKind {}
 
 impl GateKind {
+    /// The word that a gate sheet writes.
+    pub fn word(self) -> &'static str
+        ensures { result.now ≡ word_of self }
+    {
+        match self {
+            GateKind::Const => "const",
+            GateKind::Sum => "sum",
+            GateKind::Times => "times",
+            GateKind::Minus => "minus",
+            GateKind::Not => "not",
+            GateKind::Or => "or",
+        }
+    }
+
     /// How many arguments a gate of this kind uses.
     pub fn arity(self) -> usize
         ensures { (a b : ℕ) → result ≡ length (arguments_of self a b) }

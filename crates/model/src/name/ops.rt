@@ -98,5 +98,6 @@ fn all_word_bytes(word: &[u8]) -> bool
 fn is_name(word: &[u8]) -> bool
     ensures { result ≡ is_name word.now }
 {
-    word.first().is_some_and(|b| is_letter(*b)) && all_word_bytes(word) && word.len() <= MAX_LENGTH
+    // the length first, so that a long word costs no more than a short one
+    word.len() <= MAX_LENGTH && word.first().is_some_and(|b| is_letter(*b)) && all_word_bytes(word)
 }
