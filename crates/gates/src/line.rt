@@ -21,13 +21,10 @@ impl fmt::Display for Line {
         let number = self.gate.number;
         let first = self.gate.first;
         let second = self.gate.second;
-        match self.kind {
-            GateKind::Const => write!(f, "{signal} {kind} {number}"),
-            GateKind::Minus | GateKind::Not => write!(f, "{signal} {kind} {first}"),
-            GateKind::Sum | GateKind::Times | GateKind::Or => write!(
-                f,
-                "{signal} {kind} {first} {second}"
-            ),
+        match kind.arity() {
+            0 => write!(f, "{signal} {kind} {number}"),
+            1 => write!(f, "{signal} {kind} {first}"),
+            _ => write!(f, "{signal} {kind} {first} {second}"),
         }
     }
 }
