@@ -3,6 +3,7 @@
 #![tactic(auto)]
 
 mod files;
+mod message;
 mod reading;
 mod refused;
 mod sheet;

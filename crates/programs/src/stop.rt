@@ -1,13 +1,17 @@
-ghost use Rattle.std.specs.Prelude.{◌≡◌};
+ghost use Rattle.std.specs.Prelude.{◌≡◌, [], ◌∷◌, ◌++◌, OnOk};
+ghost use Rattle.std.specs.Io.KnownBytes.{Appends};
 ghost use Rattle.std.specs.IoError.{error_kind};
 ghost use Rattle.std.specs.declared.io.Error.{Error as IoError};
 ghost use Rattle.std.specs.declared.io.ErrorKind.TheVariants.{OutOfMemory};
 ghost use Rattle.programs.specs.declared.stop.Stop.TheVariants.{Io, Refused as RefusedStop};
+ghost use Rattle.programs.specs.Refused.{refused_text};
 ghost use Rattle.programs.specs.Stops.{Ends, StopsBy};
 
+use crate::message::Message;
 use crate::refused::Refused;
 use std::alloc::AllocError;
 use std::io;
+use std::io::Write;
 
 /// Why a program ends before its work is done.
 #[derive(Debug, Drop)]
@@ -46,8 +50,20 @@ pub fn report<W: io::Write>(out: &mut W, outcome: Result<(), Stop>) -> io::Resul
 {
     let Err(stop) = outcome else { return Ok(()) };
     match stop {
-        Stop::Refused(refused) => writeln!(out, "{refused}"),
+        Stop::Refused(refused) => tell(out, refused),
         Stop::Io(error) => Err(error),
+    }
+}
+
+// Writes the line of a refusal at once, so that who reads it gets it whole, or nothing.
+fn tell<W: io::Write>(out: &mut W, refused: Refused) -> io::Result<()>
+    ensures { OnOk result (Appends (W.contents out.old) (W.contents out.new) (refused_text refused ++ (10 ∷ []))) }
+{
+    let mut line = Message::new();
+    match writeln!(line, "{refused}") {
+        Ok(()) => out.write_all(line.as_bytes()),
+        // a file's name may be longer than a message
+        Err(_) => writeln!(out, "{refused}"),
     }
 }
 
@@ -63,6 +79,46 @@ mod tests {
         let mut out = Vec::new(rt.alloc());
         report(&mut out, Err(Stop::from(refused)))?;
         assert_eq!(rt; out.as_slice(), b"sheet.txt refused 8 1 12\n".as_slice());
+        Ok(())
+    }
+
+    // Counts the writes, and takes each whole.
+    #[derive(Drop)]
+    struct Writes {
+        count: usize,
+        bytes: usize,
+    }
+
+    impl io::Write for Writes {
+        fn write(&mut self, buf: &[u8]) -> io::Result<usize> {
+            self.count = self.count.saturating_add(1);
+            self.bytes = self.bytes.saturating_add(buf.len());
+            Ok(buf.len())
+        }
+
+        fn flush(&mut self) -> io::Result<()> {
+            Ok(())
+        }
+    }
+
+    #[test]
+    fn a_refusal_is_told_in_one_write(rt: HostRuntime) -> Result<(), Fail> {
+        let largest = Refusal::UnknownName.at(usize::MAX);
+        let mut out = Writes { count: 0, bytes: 0 };
+        report(&mut out, Err(Stop::from(Refused::in_sheet(largest))))?;
+        assert_eq!(rt; (out.count, out.bytes), (1, 43));
+        Ok(())
+    }
+
+    #[test]
+    fn a_longer_line_is_told_too(rt: HostRuntime) -> Result<(), Fail> {
+        let refused = Refused {
+            file: "a_sheet_whose_name_alone_is_longer_than_what_a_message_has_room_for_in_one_go_ab.txt",
+            fault: Refusal::UnknownName.at(12),
+        };
+        let mut out = Writes { count: 0, bytes: 0 };
+        report(&mut out, Err(Stop::from(refused)))?;
+        assert_eq!(rt; out.bytes, refused.file.len() + 16);
         Ok(())
     }
 }
