@@ -1,5 +1,6 @@
 -- Each `(` and `!` of a line is a token of its own.
-use Rattle.std.proofs.Common.{◌≡◌, ℕ, ◌+◌, Bool, true, false, cond, eqb, List, [], ◌∷◌, sym, refl, ap, ◌∙◌, subst, ⊎_elim, arith}
+use Rattle.std.specs.Prelude.{fold}
+use Rattle.std.proofs.Common.{◌≡◌, ℕ, ◌+◌, ◌%◌, ◌^◌, ◌<◌, ◌≤◌, length, Bool, true, false, cond, eqb, List, [], ◌∷◌, sym, refl, ap, ◌∙◌, subst, ⊎_elim, arith}
 use Rattle.std.proofs.lemmas.Bool.{cases_Bool, eqb-true, eqb-false, cond-true, cond-false}
 use Rattle.std.proofs.lemmas.Bool.Decides.{nat_tests}
 use Rattle.std.specs.List.{count_by}
@@ -73,3 +74,19 @@ brackets_bytes (b ∷ bs) =
     ∙ ap (λ n. cond (opens_deeper b) (1 + n) n) (brackets_bytes bs) ∙ counted b bs)
     (cases_Bool (is_word_byte b)))
     (cases_Bool (eqb b 32))
+
+-- ---- adding up one for each, byte by byte
+
+abbrev pub count_step : ℕ → ℕ → ℕ
+count_step n b = (n + cond (opens_deeper b) 1 0) % 2 ^ 64
+
+one_at_most : (t : Bool) → cond t 1 0 ≤ 1
+one_at_most true = omega arith
+one_at_most false = omega arith
+
+pub counts_up : (bs : List ℕ) (n : ℕ) → n + length bs < 2 ^ 64 → fold count_step n bs ≡ n + count_by opens_deeper bs
+counts_up [] n few = omega arith
+counts_up (b ∷ bs) n few =
+    let k = cond (opens_deeper b) 1 0 in
+    let small : (n + k) % 2 ^ 64 ≡ n + k = omega (arith, few, one_at_most (opens_deeper b)) in
+    ap (λ m. fold count_step m bs) small ∙ counts_up bs (n + k) (omega (arith, few, one_at_most (opens_deeper b))) ∙ omega (arith, sum_by-cons (λ x. cond (opens_deeper x) 1 0) b bs)

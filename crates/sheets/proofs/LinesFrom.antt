@@ -37,6 +37,13 @@ pub parts_length : (text line rest : List ℕ) → Parts text line rest → leng
 parts_length text line rest parts =
     ⊎_elim (λ cut. omega (arith, ap length cut, length-append line (10 ∷ rest))) (λ all. omega (arith, ap length all.0, ap length all.1)) parts.joined
 
+pub parts_shorter : (text line rest : List ℕ) → Parts text line rest → length rest ≤ length text
+parts_shorter text line rest parts =
+    ⊎_elim
+    (λ cut. omega (arith, ap length cut, length-append line (10 ∷ rest)))
+    (λ all. omega (arith, ap length all.1))
+    parts.joined
+
 pub parts_lines : (p : ℕ) (text line rest : List ℕ) → Parts text line rest → 0 < length text → lines_from p text ≡ line_at p line ∷ lines_from (p + (length text - length rest)) rest
 parts_lines p text line rest parts some =
     ⊎_elim

@@ -1,5 +1,5 @@
 -- What is still to be read of a line, and of a text.
-use Rattle.std.specs.Prelude.{ℕ, List}
+use Rattle.std.specs.Prelude.{ℕ, ◌-◌, List, length}
 use Rattle.sheets.specs.Lines.{Line, line_at, lines_from, speaking}
 use Rattle.sheets.specs.Tokens.{tokens}
 use Rattle.sheets.specs.declared.cursor.Cursor.{Cursor}
@@ -15,7 +15,7 @@ ahead c = tokens c.rest.now
 
 -- the lines that are still to come
 abbrev pub left : Lines → List Line
-left l = lines_from l.place l.rest.now
+left l = lines_from (l.end - length l.rest.now) l.rest.now
 
 -- those of them that say something
 abbrev pub to_come : Lines → List Line

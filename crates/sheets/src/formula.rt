@@ -1,4 +1,4 @@
-ghost use Rattle.std.specs.Prelude.{◌≡◌, MatchResult};
+ghost use Rattle.std.specs.Prelude.{◌≡◌, ◌≤◌, MatchResult};
 ghost use Rattle.model.specs.Refusals.{fault};
 ghost use Rattle.model.specs.declared.fault.Refusal.TheVariants.{NoForm};
 ghost use Rattle.table.specs.Tables.{keys_of};
@@ -6,6 +6,7 @@ ghost use Rattle.sheets.specs.Cursors.{ahead};
 ghost use Rattle.sheets.specs.Drafts.{SameLists};
 ghost use Rattle.sheets.specs.FormulaEnds.{EndsFormula, EndsPart, EndsTerm, NoFactor, NoFormula, NoPart, NoTerm};
 ghost use Rattle.sheets.specs.FormulaReads.{ReadFactor, ReadFormula, ReadPart, ReadTerm, Signals};
+ghost use Rattle.sheets.specs.Tokens.{brackets};
 
 use crate::cursor::Cursor;
 use crate::draft::Draft;
@@ -16,13 +17,15 @@ use model::{Fault, Gate, GateKind, Refusal};
 // reader for all would have to be told the level, its signs and its gates at each call.
 //
 // Each puts the gates of what it reads into the draft and answers the signal, and but for a factor also the token that
-// comes after. They go deeper with each bracket and each not that is read, and so no deeper than the line has of these.
+// comes after. They go deeper with each bracket and each not that is read, and so no deeper than the line has of these,
+// which `few` bounds.
 //
 // `signals` is a fact of a draft and a line together, which the type of neither can say.
 impl Cursor<'_> {
     // Parts joined by `|`.
     #[cycle(factor_formula_part_term)]
     pub(crate) fn formula(&mut self, draft: &mut Draft) -> Result<(u32, Token), Fault>
+        requires few { brackets (ahead self.old) ≤ 32 }
         requires signals { Signals draft.old (ahead self.old) }
         ensures stays { self.new.line ≡ self.old.line }
         ensures lent { SameLists draft.old draft.new }
@@ -40,6 +43,7 @@ impl Cursor<'_> {
     // Terms joined by `+` or `-`.
     #[cycle(factor_formula_part_term)]
     fn part(&mut self, draft: &mut Draft) -> Result<(u32, Token), Fault>
+        requires few { brackets (ahead self.old) ≤ 32 }
         requires signals { Signals draft.old (ahead self.old) }
         ensures stays { self.new.line ≡ self.old.line }
         ensures lent { SameLists draft.old draft.new }
@@ -67,6 +71,7 @@ impl Cursor<'_> {
     // Factors joined by `*`.
     #[cycle(factor_formula_part_term)]
     fn term(&mut self, draft: &mut Draft) -> Result<(u32, Token), Fault>
+        requires few { brackets (ahead self.old) ≤ 32 }
         requires signals { Signals draft.old (ahead self.old) }
         ensures stays { self.new.line ≡ self.old.line }
         ensures lent { SameLists draft.old draft.new }
@@ -85,6 +90,7 @@ impl Cursor<'_> {
     // `!` and a factor, a formula in brackets, a name or a number.
     #[cycle(factor_formula_part_term)]
     fn factor(&mut self, draft: &mut Draft) -> Result<u32, Fault>
+        requires few { brackets (ahead self.old) ≤ 32 }
         requires signals { Signals draft.old (ahead self.old) }
         ensures stays { self.new.line ≡ self.old.line }
         ensures lent { SameLists draft.old draft.new }

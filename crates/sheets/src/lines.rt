@@ -11,13 +11,15 @@ use model::{Fault, Refusal};
 pub(crate) struct Lines<'a> {
     // the text from the next line on
     rest: &'a [u8],
-    // where that begins in the text
-    place: usize,
-    ghost short: { place + length rest.now ≤ 65535 },
+    // where the text ends: what is left tells where the next line begins, which is worked out only for a line that is
+    // handed out
+    end: usize,
+    ghost inside: { length rest.now ≤ end },
+    ghost short: { end ≤ 65535 },
 }
 
 impl<'a> Lines<'a> {
-    ghost use Rattle.sheets.specs.Cursors.{current, left};
+    ghost use Rattle.sheets.specs.Cursors.{current, left, to_come};
     ghost use Rattle.sheets.specs.Lines.{later, lines_from};
     ghost use Rattle.sheets.specs.Sheets.{Opens};
 
@@ -30,10 +32,20 @@ impl<'a> Lines<'a> {
         match version(heading, mark) {
             Some(1) => Ok(Lines {
                 rest,
-                place: text.len() - rest.len(),
+                end: text.len(),
             }),
             Some(_) => Err(Refusal::WrongVersion.at(0)),
             None => Err(Refusal::BadHeading.at(0)),
+        }
+    }
+
+    // Passes the empty lines that come next. To cut each off as a line of its own would cost twice as much.
+    fn pass_empty(&mut self)
+        ensures says { to_come self.new ≡ to_come self.old }
+        ensures fewer { length (left self.new) ≤ length (left self.old) }
+    {
+        while let Some((b'\n', rest)) = self.rest.split_first() {
+            self.rest = rest;
         }
     }
 
@@ -45,8 +57,7 @@ impl<'a> Lines<'a> {
             return None;
         }
         let (line, rest) = split_line(self.rest);
-        let place = self.place;
-        self.place += self.rest.len() - rest.len();
+        let place = self.end - self.rest.len();
         self.rest = rest;
         Some(Cursor::new(line, place))
     }
@@ -63,6 +74,7 @@ impl<'a> Iterator for Lines<'a> {
 
     fn next(&mut self) -> Option<Cursor<'a>> {
         loop {
+            self.pass_empty();
             let line = self.next_line()?;
             if !line.is_silent() {
                 return Some(line);

@@ -12,7 +12,7 @@ ghost use Rattle.sheets.specs.FormulaLaws.{FormulaLaws};
 ghost use Rattle.sheets.specs.RuleLaws.{ReadsBack, RuleLaws};
 ghost use Rattle.sheets.specs.RuleSheets.{room_of, ReadsLists, ReadsRules};
 ghost use Rattle.sheets.specs.SheetWorth.{ReadMeaning};
-ghost use Rattle.sheets.specs.Tokens.{tokens};
+ghost use Rattle.sheets.specs.Tokens.{brackets, tokens};
 
 use crate::counts::Counts;
 use crate::cursor::Cursor;
@@ -122,6 +122,7 @@ fn read_definition(
     draft: &mut Draft,
 ) -> Result<(), Fault>
     requires tidy { Tidy draft.old }
+    requires few { brackets (ahead cursor.old) ≤ 32 }
     ensures stays { cursor.new.line ≡ cursor.old.line }
     ensures lent { SameLists draft.old draft.new }
     ensures definition { MatchResult result (λ _. ReadDefinition notation draft.old name (ahead cursor.old) draft.new (Ok tt)) (λ f. (refusal : RefusalOf) × (f ≡ fault refusal cursor.old.line) × ReadDefinition notation draft.old name (ahead cursor.old) draft.new (Err refusal)) }

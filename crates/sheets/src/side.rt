@@ -1,4 +1,4 @@
-ghost use Rattle.std.specs.Prelude.{◌≡◌, ℕ, List, [], ◌∷◌, length, decimal, MatchResult, ◌≢◌};
+ghost use Rattle.std.specs.Prelude.{◌≡◌, ◌≤◌, ℕ, List, [], ◌∷◌, length, decimal, MatchResult, ◌≢◌};
 ghost use Rattle.model.specs.Gates.{constant_gate, word_of};
 ghost use Rattle.model.specs.Refusals.{fault};
 ghost use Rattle.model.specs.declared.fault.Refusal.TheVariants.{NoForm};
@@ -9,6 +9,7 @@ ghost use Rattle.sheets.specs.Drafts.{ReadBinary, ReadGate, ReadSide, ReadUnary,
 ghost use Rattle.sheets.specs.Formulas.{Formula, spell};
 ghost use Rattle.sheets.specs.Notations.{Side, side_tokens};
 ghost use Rattle.sheets.specs.Sides.{GateSide, gate_tokens, Numeral, Word, written};
+ghost use Rattle.sheets.specs.Tokens.{brackets};
 ghost use Rattle.sheets.specs.declared.notation.Notation.TheVariants.{Gates, Formulas};
 
 use crate::cursor::Cursor;
@@ -22,6 +23,7 @@ impl Cursor<'_> {
     // Puts the gates of a right-hand side into the draft, and answers the signal that it stands for.
     pub(crate) fn side(&mut self, notation: Notation, draft: &mut Draft) -> Result<u32, Fault>
         requires tidy { Tidy draft.old }
+        requires few { brackets (ahead self.old) ≤ 32 }
         ensures stays { self.new.line ≡ self.old.line }
         ensures lent { SameLists draft.old draft.new }
         ensures side { MatchResult result (λ signal. ReadSide notation (keys_of draft.old.names.now) draft.old (ahead self.old) signal draft.new) (λ f. (f ≡ fault NoForm self.old.line) × ((s : Side notation) → ahead self.old ≢ side_tokens notation s)) }
@@ -35,6 +37,7 @@ impl Cursor<'_> {
 
     fn formula_side(&mut self, draft: &mut Draft) -> Result<u32, Fault>
         requires tidy { Tidy draft.old }
+        requires few { brackets (ahead self.old) ≤ 32 }
         ensures stays { self.new.line ≡ self.old.line }
         ensures lent { SameLists draft.old draft.new }
         ensures side { MatchResult result (λ signal. ReadSide Formulas (keys_of draft.old.names.now) draft.old (ahead self.old) signal draft.new) (λ f. (f ≡ fault NoForm self.old.line) × ((g : Formula) → ahead self.old ≢ spell g)) }

@@ -37,11 +37,15 @@ impl<'a> Cursor<'a> {
     }
 }
 
-// How many tokens `(` and `!` a line has. No other token holds such a byte.
+// How many tokens `(` and `!` a line has. No other token holds such a byte. A sum over all bytes, since the compiler adds
+// up several at a time then, as it does not where some are left out.
 fn count_brackets(line: &[u8]) -> usize
     ensures { result ≡ count_by opens_deeper line.now }
 {
-    line.iter().filter(|b| opens_deeper(**b)).count()
+    line.iter().fold(
+        0,
+        |count, b| count.wrapping_add(usize::from(opens_deeper(*b))),
+    )
 }
 
 // Whether a byte is a token `(` or `!`.

@@ -159,7 +159,7 @@ formula-part-requires-in-Or t c =
     let rest = ahead here.self in
     let so_far = subst (λ u. ReadFormula ss d ts here.signal u rest here.draft) c.in-Or.is (here.invariant.2 d ts (formula_first ss d ts _ _ _ _ first.read.0)) in
     let enough = enough_or ss d ts c.requires.signals here.signal rest here.draft so_far in
-    (omega (arith, enough.few), omega (arith, enough.signals))
+    (omega (arith, enough.few), (omega (arith, enough.few, c.requires.few), omega (arith, enough.signals)))
 
 pub formula-returns-in_err-right : goal.formula-returns-in_err-right
 formula-returns-in_err-right t c =
@@ -246,7 +246,7 @@ part-term-requires-in-Plus t c =
     let rest = ahead here.self in
     let so_far = subst (λ u. ReadPart ss d ts here.signal u rest here.draft) c.in-Plus.is (here.invariant.2 d ts (part_first ss d ts _ _ _ _ first.read.0)) in
     let enough = enough_plus ss d ts c.requires.signals here.signal rest here.draft so_far in
-    (omega (arith, enough.few), omega (arith, enough.signals))
+    (omega (arith, enough.few), (omega (arith, enough.few, c.requires.few), omega (arith, enough.signals)))
 
 pub part-returns-in_err-right-in-Plus : goal.part-returns-in_err-right-in-Plus
 part-returns-in_err-right-in-Plus t c =
@@ -314,7 +314,7 @@ part-term-requires-in-Minus t c =
     let rest = ahead here.self in
     let so_far = subst (λ u. ReadPart ss d ts here.signal u rest here.draft) c.in-Minus.is (here.invariant.2 d ts (part_first ss d ts _ _ _ _ first.read.0)) in
     let enough = enough_minus ss d ts c.requires.signals here.signal rest here.draft so_far in
-    (omega (arith, enough.few), omega (arith, enough.signals))
+    (omega (arith, enough.few), (omega (arith, enough.few, c.requires.few), omega (arith, enough.signals)))
 
 pub part-returns-in_err-right-in-Minus : goal.part-returns-in_err-right-in-Minus
 part-returns-in_err-right-in-Minus t c =
@@ -428,7 +428,7 @@ term-factor-requires-in-Times t c =
     let here = c.loop-token in
     let so_far = here.invariant.2 d ts (term_first ss d ts _ _ _ _ _ first.read next.next) in
     let enough = enough_times ss d ts c.requires.signals here.signal (ahead here.self) here.draft (subst (λ u. ReadTerm ss d ts here.signal u (ahead here.self) here.draft) c.in-Times.is so_far) in
-    (omega (arith, enough.few), omega (arith, enough.signals))
+    (omega (arith, enough.few), (omega (arith, enough.few, c.requires.few), omega (arith, enough.signals)))
 
 pub term-returns-in_err-right : goal.term-returns-in_err-right
 term-returns-in_err-right t c =

@@ -52,4 +52,4 @@ returns-in_default c =
 pub formula-requires : goal.formula-requires
 formula-requires c =
     let few = tokens_short c.args.self.now.rest.now in
-    record { signals = omega (arith, few, c.args.self.now.short, c.requires.tidy.few_gates, c.args.draft.now.few_facts) }
+    record { few = c.requires.few; signals = omega (arith, few, c.args.self.now.short, c.requires.tidy.few_gates, c.args.draft.now.few_facts) }
