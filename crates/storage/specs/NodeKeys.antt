@@ -32,6 +32,15 @@ same_node = (node_equality.ghosts).eq
 abbrev pub same_key : NodeKey → NodeKey → Bool
 same_key x y = same_node x.node y.node
 
+-- the laws of keys whose equality is identity
+identity_laws : {K : Type 0} (same : K → K → Bool) (code : K → ℕ) → ((x y : K) → Decides (same x y) (x ≡ y)) → KeyLaws same code
+identity_laws same code decides = record {
+  reflexive = λ x. (decides x x).1 refl;
+  symmetric = λ x y h. (decides y x).1 (sym ((decides x y).0 h));
+  transitive = λ x y z h k. (decides x z).1 ((decides x y).0 h ∙ (decides y z).0 k);
+  same_code = λ x y h. ap code ((decides x y).0 h);
+}
+
 pub same_root_decides : (x y : Root) → Decides (same_root x y) (x ≡ y)
 same_root_decides (Inner a) (Inner b) = Decides-like (same_root (Inner a) (Inner b)) (ap Inner) (λ e. cc) (Decides-eqb a b)
 same_root_decides (Inner a) (Leaf b) = (λ t. absurd (true≢false (sym t)), λ e. cc)
@@ -48,17 +57,12 @@ same_node_decides x y =
 pub same_key_decides : (x y : NodeKey) → Decides (same_key x y) (x ≡ y)
 same_key_decides x y = Decides-like (same_key x y) (λ p i. record { node = p i }) (ap (λ k. k.node)) (same_node_decides x.node y.node)
 
-pub same_hash : (x y : NodeKey) → same_key x y ≡ true → key_hash x ≡ key_hash y
-same_hash x y h = ap key_hash ((same_key_decides x y).0 h)
-
 -- so nodes are keys
 pub node_laws : KeyLaws same_key key_hash
-node_laws = record {
-  reflexive = λ x. (same_key_decides x x).1 refl;
-  symmetric = λ x y h. (same_key_decides y x).1 (sym ((same_key_decides x y).0 h));
-  transitive = λ x y z h k. (same_key_decides x z).1 ((same_key_decides x y).0 h ∙ (same_key_decides y z).0 k);
-  same_code = same_hash;
-}
+node_laws = identity_laws same_key key_hash same_key_decides
+
+pub same_hash : (x y : NodeKey) → same_key x y ≡ true → key_hash x ≡ key_hash y
+same_hash = node_laws.same_code
 
 -- ---- what keys that lie in a table say of their nodes
 

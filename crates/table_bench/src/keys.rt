@@ -1,5 +1,4 @@
-ghost use Rattle.std.proofs.Common.{rules};
-ghost use Rattle.std.specs.Prelude.{◌/◌, ◌^◌};
+ghost use Rattle.table_bench.specs.Scattering.{scattered_laws, upper_half};
 
 use table::Key;
 
@@ -15,10 +14,9 @@ impl Scattered {
 }
 
 impl Key for Scattered {
-    // the upper half of the number
-    ghost code = { λ x. x.0 / 2 ^ 32 };
+    ghost code = { upper_half };
 
-    ghost same_code = { Prim.search rules };
+    ghost same_code = { scattered_laws.same_code };
 
     fn hash(&self) -> u32 {
         (self.0 >> 32) as u32

@@ -1,5 +1,5 @@
-ghost use Rattle.std.proofs.Common.{rules};
 ghost use Rattle.std.specs.Prelude.{◌%◌};
+ghost use Rattle.table.specs.KeysBy.{laws_by};
 
 use table::Key;
 
@@ -10,7 +10,7 @@ pub struct Number(pub u32);
 impl Key for Number {
     ghost code = { λ x. x.0 };
 
-    ghost same_code = { Prim.search rules };
+    ghost same_code = { (laws_by (λ x. x.0) (λ n. n)).same_code };
 
     fn hash(&self) -> u32 {
         self.0
@@ -29,7 +29,7 @@ pub struct Labelled {
 impl Key for Labelled {
     ghost code = { λ x. x.number % 8 };
 
-    ghost same_code = { Prim.search rules };
+    ghost same_code = { (laws_by (λ x. x.number) (λ n. n % 8)).same_code };
 
     fn hash(&self) -> u32 {
         self.number % 8
@@ -43,7 +43,7 @@ pub struct Clashing(pub u32);
 impl Key for Clashing {
     ghost code = { λ _. 7 };
 
-    ghost same_code = { Prim.search rules };
+    ghost same_code = { (laws_by (λ x. x.0) (λ _. 7)).same_code };
 
     fn hash(&self) -> u32 {
         7
